@@ -1,0 +1,9 @@
+pub mod Operations
+pub mod Answered
+pub mod Forced
+pub mod Within
+pub mod Literals
+pub mod Ranges
+pub mod Turns
+pub mod Fields
+pub mod Split

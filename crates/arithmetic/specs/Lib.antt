@@ -1,0 +1,6 @@
+pub mod Checked
+pub mod Exp
+pub mod Ln
+pub mod Root
+pub mod Power
+pub mod Calls

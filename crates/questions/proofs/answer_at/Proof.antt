@@ -1,0 +1,73 @@
+-- `answer_at` meets its contract: the three words are those of the list, of its tail from 8 on and of its tail from 16 on.
+-- Assumes nothing.
+use mathlib.Core.Path.{_∙_, sym}
+use borrow.Author.Needs.{needs}
+use borrow.Author.Tests.{le-leb, lt-leb}
+use Rattle.words.proofs.Tail.{tail-read}
+use Rattle.questions.specs.Replies.{answerAt}
+use Rattle.questions.proofs.answer_at.Statement.{statement}
+use Rattle.questions.proofs.answer_at.Tie as tie
+use Rattle.questions.proofs.answer_at.Reads as reads
+use Rattle.questions.proofs.answer_at.Lts as lts
+use Rattle.questions.proofs.answer_to.Reads as answer-to-reads
+use Rattle.words.proofs.word.Reads as word-reads
+
+returns : tie.Need-returns
+unfolding answerAt
+returns c = simp (lt-leb _ _ (c .if1 .taken))
+
+word-requires : tie.Need-word-requires
+word-requires c κs = search needs
+
+sub-word : tie.Need-sub-word
+sub-word c = search needs
+
+part-word-start : tie.Need-part-word-start
+part-word-start c = search needs
+
+part-word-end : tie.Need-part-word-end
+part-word-end c = search needs
+
+word-requires-2 : tie.Need-word-requires-2
+word-requires-2 c κs = search needs
+
+sub-word-2 : tie.Need-sub-word-2
+sub-word-2 c = search needs
+
+part-word-start-2 : tie.Need-part-word-start-2
+part-word-start-2 c = search needs
+
+part-word-end-2 : tie.Need-part-word-end-2
+part-word-end-2 c = search needs
+
+word-requires-3 : tie.Need-word-requires-3
+word-requires-3 c κs = search needs
+
+answer-to-requires : tie.Need-answer-to-requires
+answer-to-requires c κs = search needs
+
+returns-2 : tie.Need-returns-2
+unfolding answerAt
+returns-2 c =
+    let third = c .before in
+    let second = third .before .before in
+    let first = second .before .before in
+    c .answer-to .ensures
+    ∙ simp (le-leb _ _ (first .before .if1 .left), first .word .ensures, second .word2 .ensures, third .word3 .ensures, tail-read)
+
+pub answer-at-spec : {M : Type 1} → statement M
+answer-at-spec =
+    tie.close
+    (tie.spec
+    returns
+    word-requires
+    sub-word
+    part-word-start
+    part-word-end
+    word-requires-2
+    sub-word-2
+    part-word-start-2
+    part-word-end-2
+    word-requires-3
+    answer-to-requires
+    returns-2)

@@ -1,0 +1,16 @@
+/* Tests the independent implementation itself, on facts that 01 and 003 print. */
+#include "unit/check.h"
+
+#include <stdio.h>
+#include <stdlib.h>
+
+int main(void)
+{
+    check_arithmetic();
+    check_equation();
+    check_search();
+    check_density();
+    check_questions();
+    printf("%u passed, %u failed\n", counted.passed, counted.failed);
+    return counted.failed == 0 ? EXIT_SUCCESS : EXIT_FAILURE;
+}
