@@ -1,0 +1,27 @@
+# Makes the table of the lines that `time measure` wrote in one or more processes: for each row and candidate the least.
+BEGIN { FS = "\t" }
+
+{
+    row = "| " $1 " | " $2 " |"
+    if (!(row in seen)) {
+        seen[row] = 1
+        rows[++count] = row
+    }
+    if (!((row, $3) in least) || $4 < least[row, $3]) least[row, $3] = $4 + 0
+}
+
+function smaller(a, b) { return a < b ? a : b }
+
+END {
+    print "| function | inputs | package | C -O2 | C -O3 | Rust | package / better C | package / Rust |"
+    print "|---|---|---:|---:|---:|---:|---:|---:|"
+    for (k = 1; k <= count; k++) {
+        row = rows[k]
+        package = least[row, "package"]
+        c_2 = least[row, "C -O2"]
+        c_3 = least[row, "C -O3"]
+        rust = least[row, "Rust"]
+        printf "%s %.2f | %.2f | %.2f | %.2f | %.2f | %.2f |\n",
+            row, package, c_2, c_3, rust, package / smaller(c_2, c_3), package / rust
+    }
+}
