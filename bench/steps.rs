@@ -1,6 +1,9 @@
 //! The steps of exp, ln and root in Rust, one rounding per operation, in the order in which they are specified.
 #![no_std]
 
+mod equation;
+mod r245ca;
+
 fn finite_or_nan(x: f64) -> f64 {
     if x.is_finite() {
         x

@@ -1,11 +1,12 @@
 /* Compares and times the package's functions beside the same steps in C and in Rust: `time check`, `time measure`.
  *
  * Every candidate is a function of an object file of its own and is called through a pointer, so that none is inlined.
- * To add a function: declare its candidates, and add a row to `rows`. A function of two arguments needs an input of two
- * doubles (`width`) and a sum beside `sum_of_one` that reads both. */
+ * To add a function: declare its candidates, and add a row to `rows`. The row's sum knows the candidates' arguments, and
+ * `width` is how many doubles are one input. */
 #define _POSIX_C_SOURCE 199309L /* clock_gettime */
 #include <inttypes.h>
 #include <math.h>
+#include <stddef.h>
 #include <stdint.h>
 #include <stdio.h>
 #include <string.h>
@@ -15,26 +16,38 @@ enum { INPUTS = 4096, WIDEST = 2, TRIALS = 25, EDGES = 16 };
 
 /* ---- candidates */
 
-enum { PACKAGE, C_O2, C_O3, RUST, CANDIDATES };
+enum { PACKAGE, NAIVE, C_O2, C_O3, RUST, CANDIDATES };
 
-static const char *const candidate_names[CANDIDATES] = {"package", "C -O2", "C -O3", "Rust"};
+static const char *const candidate_names[CANDIDATES] = {"package", "naive C", "C -O2", "C -O3", "Rust"};
 
 /* A candidate whatever its arguments are; the row's sum knows them. */
 typedef void candidate(void);
 
-#define DECLARE_ONE(name)                                                                                             \
-    double verriblom_##name(double);                                                                                  \
-    double c_o2_##name(double);                                                                                       \
-    double c_o3_##name(double);                                                                                       \
-    double rust_##name(double);
+#define DECLARE(name, ...)                                                                                            \
+    double verriblom_##name(__VA_ARGS__);                                                                             \
+    double naive_##name(__VA_ARGS__);                                                                                 \
+    double c_o2_##name(__VA_ARGS__);                                                                                  \
+    double c_o3_##name(__VA_ARGS__);                                                                                  \
+    double rust_##name(__VA_ARGS__);
+#define ALL_BUT_NAIVE(name)                                                                                           \
+    {                                                                                                                 \
+        (candidate *)verriblom_##name, NULL, (candidate *)c_o2_##name, (candidate *)c_o3_##name,                      \
+            (candidate *)rust_##name                                                                                  \
+    }
 #define ALL_OF(name)                                                                                                  \
     {                                                                                                                 \
-        (candidate *)verriblom_##name, (candidate *)c_o2_##name, (candidate *)c_o3_##name, (candidate *)rust_##name   \
+        (candidate *)verriblom_##name, (candidate *)naive_##name, (candidate *)c_o2_##name,                           \
+            (candidate *)c_o3_##name, (candidate *)rust_##name                                                        \
     }
 
-DECLARE_ONE(exp)
-DECLARE_ONE(ln)
-DECLARE_ONE(root)
+DECLARE(exp, double)
+DECLARE(ln, double)
+DECLARE(root, double)
+DECLARE(pressure, double, double)
+DECLARE(entropy, double, double)
+DECLARE(isobaric, double, double)
+DECLARE(sound_speed, double, double)
+DECLARE(isotherm, double, const double *, size_t)
 
 /* ---- calls */
 
@@ -48,6 +61,20 @@ static double sum_of_one(candidate *f, const double *inputs, int count) {
     for (int i = 1; i < count; i++)
         total += call(inputs[i]);
     return total;
+}
+
+static double sum_of_two(candidate *f, const double *inputs, int count) {
+    double (*call)(double, double) = (double (*)(double, double))f;
+    double total = call(inputs[0], inputs[1]);
+    for (int i = 1; i < count; i++)
+        total += call(inputs[2 * i], inputs[2 * i + 1]);
+    return total;
+}
+
+/* One call for all densities, at 400 K: the candidate sums. */
+static double sum_along(candidate *f, const double *inputs, int count) {
+    double (*call)(double, const double *, size_t) = (double (*)(double, const double *, size_t))f;
+    return call(400.0, inputs, (size_t)count);
 }
 
 /* ---- inputs */
@@ -91,6 +118,19 @@ static void draw_root(double *input) {
     *input = log_uniform(1.0, 1e8);
 }
 
+/* A temperature, and a density below the critical one or above it, with the same chance; drawn again where there is no
+ * sound speed. So each function has the same states, vapour and liquid. */
+static void draw_state(double *input) {
+    do {
+        input[0] = uniform(196.0, 450.0);
+        input[1] = next_word() >> 63 ? uniform(3.92, 13.0) : uniform(0.0, 3.92);
+    } while (isnan(verriblom_sound_speed(input[0], input[1])));
+}
+
+static void draw_density(double *input) {
+    *input = uniform(0.0, 13.0);
+}
+
 /* ---- rows */
 
 struct row {
@@ -102,20 +142,31 @@ struct row {
     candidate *by[CANDIDATES];
     /* Inputs that are compared and not timed: the ends of the range, and what lies outside. */
     int edges;
-    double edge[EDGES];
+    double edge[EDGES * WIDEST];
 };
 
 #define OUTSIDE NAN, INFINITY, -INFINITY, 0.0, -0.0
 
+/* The ends of the ranges, the doubles next to them, unstable states, and what is no number. */
+#define STATE_EDGES                                                                                                   \
+    16, {196.0, 0.0, 450.0, 13.0, 450.0, 0.0, 196.0, 13.0, 0x1.87fffffffffffp+7, 1.0, 0x1.c200000000001p+8, 1.0,      \
+         300.0, 0x1.a000000000001p+3, 300.0, -0x1p-1074, 250.0, -0.0, 250.0, 0x1p-80, 250.0, 5.0, 447.57, 3.92,       \
+         NAN, 1.0, 300.0, NAN, INFINITY, 1.0, 300.0, INFINITY}
+
 static const struct row rows[] = {
-    {"exp", "-50 .. 50", 1, draw_exp_near, sum_of_one, ALL_OF(exp), 0, {0.0}},
-    {"exp", "-700 .. 700", 1, draw_exp_far, sum_of_one, ALL_OF(exp), 10,
+    {"exp", "-50 .. 50", 1, draw_exp_near, sum_of_one, ALL_BUT_NAIVE(exp), 0, {0.0}},
+    {"exp", "-700 .. 700", 1, draw_exp_far, sum_of_one, ALL_BUT_NAIVE(exp), 10,
      {OUTSIDE, 0x1p-1074, -700.0, 700.0, -0x1.5e00000000001p+9, 0x1.5e00000000001p+9}},
-    {"ln", "2^-60 .. 2^60", 1, draw_ln, sum_of_one, ALL_OF(ln), 14,
+    {"ln", "2^-60 .. 2^60", 1, draw_ln, sum_of_one, ALL_BUT_NAIVE(ln), 14,
      {OUTSIDE, -1.0, 1.0, 0x1.7ffffffffffffp+0, 1.5, 0x1.fffffffffffffp-1, 0x1p-60, 0x1p60, 0x1.fffffffffffffp-61,
       0x1.0000000000001p+60}},
-    {"root", "1 .. 1e8", 1, draw_root, sum_of_one, ALL_OF(root), 11,
+    {"root", "1 .. 1e8", 1, draw_root, sum_of_one, ALL_BUT_NAIVE(root), 11,
      {OUTSIDE, -1.0, 1.0, 65536.0, 1e8, 0x1.fffffffffffffp-1, 0x1.7d78400000001p+26}},
+    {"pressure", "states", 2, draw_state, sum_of_two, ALL_OF(pressure), STATE_EDGES},
+    {"entropy", "states", 2, draw_state, sum_of_two, ALL_OF(entropy), STATE_EDGES},
+    {"isobaric heat capacity", "states", 2, draw_state, sum_of_two, ALL_OF(isobaric), STATE_EDGES},
+    {"sound speed", "states", 2, draw_state, sum_of_two, ALL_OF(sound_speed), STATE_EDGES},
+    {"pressure", "densities at 400 K", 1, draw_density, sum_along, ALL_OF(isotherm), 7, {OUTSIDE, 0x1p-80, 13.0}},
 };
 enum { ROWS = sizeof rows / sizeof *rows };
 
@@ -150,14 +201,15 @@ static void say_different(const struct row *row, const double *input) {
     for (int k = 1; k < row->width; k++)
         printf(", %a", input[k]);
     for (int by = 0; by < CANDIDATES; by++)
-        printf("; %s %016" PRIx64, candidate_names[by], bits_of(value(row, by, input)));
+        if (row->by[by])
+            printf("; %s %016" PRIx64, candidate_names[by], bits_of(value(row, by, input)));
     printf("\n");
 }
 
 static int agreed(const struct row *row, const double *input) {
     double expected = value(row, PACKAGE, input);
     for (int by = 1; by < CANDIDATES; by++)
-        if (!same(expected, value(row, by, input))) {
+        if (row->by[by] && !same(expected, value(row, by, input))) {
             say_different(row, input);
             return 0;
         }
@@ -190,9 +242,9 @@ static int all_checked(void) {
             return 0;
         edges += rows[r].edges;
     }
-    printf("all %d candidates give the same bits on all %d timed inputs,\n"
+    printf("all candidates give the same bits on all %d timed inputs,\n"
            "and on %d more at the ends of the ranges and outside\n",
-           CANDIDATES, ROWS * INPUTS, edges);
+           ROWS * INPUTS, edges);
     return 1;
 }
 
@@ -221,7 +273,8 @@ static void least_times(const struct row *row, double least[CANDIDATES]) {
     for (int trial = 0; trial < TRIALS; trial++)
         for (int turn = 0; turn < CANDIDATES; turn++) {
             int by = (trial + turn) % CANDIDATES;
-            least[by] = fmin(least[by], pass(row, by));
+            if (row->by[by])
+                least[by] = fmin(least[by], pass(row, by));
         }
 }
 
@@ -233,7 +286,8 @@ static void print_times(const struct row *row) {
     draw_inputs(row);
     least_times(row, least);
     for (int by = 0; by < CANDIDATES; by++)
-        printf("%s\t%s\t%s\t%.3f\n", row->name, row->range, candidate_names[by], least[by]);
+        if (row->by[by])
+            printf("%s\t%s\t%s\t%.3f\n", row->name, row->range, candidate_names[by], least[by]);
 }
 
 int main(int count, char **words) {

@@ -1,4 +1,4 @@
-/* Tests the independent implementation itself, on facts that 01 and 003 print. */
+/* Tests the independent implementation on facts that 01 and 003 print, and the random questions. */
 #include "unit/check.h"
 
 #include <stdio.h>
@@ -11,6 +11,7 @@ int main(void)
     check_search();
     check_density();
     check_questions();
+    check_generator();
     printf("%u passed, %u failed\n", counted.passed, counted.failed);
     return counted.failed == 0 ? EXIT_SUCCESS : EXIT_FAILURE;
 }

@@ -27,5 +27,6 @@ void check_equation(void);
 void check_search(void);
 void check_density(void);
 void check_questions(void);
+void check_generator(void);
 
 #endif

@@ -121,13 +121,45 @@ static void check_tiny_density(enum property property)
           "%s just under that density", property_names[property]);
 }
 
-static void check_unstable(void)
+/* 11 for both properties; at each state it is said whether V or Q is the cause. */
+static void check_unstable(double T, double rho, bool V_above_zero, bool Q_above_zero)
 {
-    check(refused_with(11, of(ISOBARIC_HEAT_CAPACITY, 400, 3)), "cp at 400 K, 3 gets 11");
-    check(refused_with(11, of(SOUND_SPEED, 400, 3)), "w at 400 K, 3 gets 11");
-    check(refused_with(11, of(ISOBARIC_HEAT_CAPACITY, 390, 3.5)), "cp at 390 K, 3.5 gets 11");
-    check(refused_with(11, of(SOUND_SPEED, 390, 3.5)), "w at 390 K, 3.5 gets 11");
-    check(number(ISOCHORIC_HEAT_CAPACITY, 390, 3.5) <= 0, "there V is not above 0");
+    double drho = 1e-5;
+    double dp = number(PRESSURE, T, rho + drho) - number(PRESSURE, T, rho - drho);
+    check(refused_with(11, of(ISOBARIC_HEAT_CAPACITY, T, rho)), "cp at %g K, %g gets 11", T, rho);
+    check(refused_with(11, of(SOUND_SPEED, T, rho)), "w at %g K, %g gets 11", T, rho);
+    /* cv is R·V, and Q has the sign of dp/dρ. */
+    check((number(ISOCHORIC_HEAT_CAPACITY, T, rho) > 0) == V_above_zero, "there V is %s 0",
+          V_above_zero ? "above" : "not above");
+    check((dp > 0) == Q_above_zero, "there Q is %s 0", Q_above_zero ? "above" : "not above");
+}
+
+/* Refusal 11 belongs to Q = 0 and to V = 0: states at which either is 0 itself. */
+static void check_unstable_at_zero(void)
+{
+    double Q_is_0 = 0x1.ce015ed20c458p-1, V_is_0 = 0x1.d60260dd31d5dp+1;
+    check(refused_with(11, of(ISOBARIC_HEAT_CAPACITY, 352, Q_is_0)), "cp gets 11 where Q is 0");
+    check(refused_with(11, of(SOUND_SPEED, 352, Q_is_0)), "w gets 11 where Q is 0");
+    check(is_answered(of(ISOBARIC_HEAT_CAPACITY, 352, nextafter(Q_is_0, 0)))
+              && is_answered(of(SOUND_SPEED, 352, nextafter(Q_is_0, 0))),
+          "both are answered at the next density below");
+    check(refused_with(11, of(ISOBARIC_HEAT_CAPACITY, 377.12, V_is_0)), "cp gets 11 where V is 0");
+    check(refused_with(11, of(SOUND_SPEED, 377.12, V_is_0)), "w gets 11 where V is 0");
+    check(answered_with(0, of(ISOCHORIC_HEAT_CAPACITY, 377.12, V_is_0)), "cv is 0 where V is 0");
+}
+
+/* 01: "A computed pressure may be negative or above the range: it is answered." */
+static void check_pressures_outside(void)
+{
+    check(number(PRESSURE, 320, 9.5) < 0, "p is negative at 320 K, 9.5");
+    check(number(PRESSURE, 450, 13) > r245ca.P.greatest, "p is above its range at 450 K, 13");
+}
+
+/* Near Q = K = 0 the root's argument is below 1 though neither V nor Q gives 11. */
+static void check_sound_speed_not_rooted(double T, double rho)
+{
+    check(is_answered(of(ISOBARIC_HEAT_CAPACITY, T, rho)), "cp at %g K, %g is answered", T, rho);
+    check(refused_with(12, of(SOUND_SPEED, T, rho)), "w at %g K, %g gets 12", T, rho);
 }
 
 /* Walking towards V = 0 the root's argument passes 10⁸ before 11 begins. */
@@ -219,8 +251,14 @@ void check_equation(void)
         check_density_zero(property);
         check_tiny_density(property);
     }
-    check_unstable();
+    check_unstable(400, 3, false, false);
+    check_unstable(390, 3.5, false, true);
+    check_unstable(300, 8, true, false);
+    check_unstable_at_zero();
+    check_pressures_outside();
     check_sound_speed_not_finite();
+    check_sound_speed_not_rooted(318.061, 4.79);
+    check_sound_speed_not_rooted(355.0645, 3.50795);
     check_laws(250, 11.3);
     check_laws(420, 1);
     check_laws(445, 7);

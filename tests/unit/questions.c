@@ -67,8 +67,9 @@ static void check_unknown(void)
 {
     static const uint64_t unknown[] = { 0, 4, 9, 19, 23, 29, 34, ((uint64_t)1 << 32) + 1 };
     for (size_t i = 0; i < sizeof unknown / sizeof *unknown; i++)
-        check(refuses(14, answer_known(unknown[i], 0, 0)), "call %llu is unknown",
-              (unsigned long long)unknown[i]);
+        check(refuses(14, answer_known(unknown[i], 0, 0))
+                  && refuses(14, answer_question(unknown[i], 0, 0)),
+              "call %llu is unknown", (unsigned long long)unknown[i]);
 }
 
 /* Built or not, the two ways of asking differ only there. */

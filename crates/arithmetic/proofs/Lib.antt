@@ -7,3 +7,5 @@ pub mod Ranges
 pub mod Turns
 pub mod Fields
 pub mod Split
+pub mod Zeros
+pub mod Signs

@@ -9,13 +9,40 @@ use Rattle.refusals.specs.declared.Refusal.the-variants.{UnknownMark}
 use Rattle.refusals.specs.declared.Answer.{Answer}
 use Rattle.refusals.specs.declared.Answer.the-variants.{Refused}
 use Rattle.arithmetic.specs.Calls.{exponentialOf, logarithmOf, squareRootOf}
+use Rattle.fluids.specs.R245ca.{r245ca}
+use Rattle.equation.specs.Calls.{pressureOf, energyOf, enthalpyOf, isochoricOf, entropyOf, gibbsOf, helmholtzOf, isobaricOf, soundSpeedOf}
+use Rattle.saturation.specs.Calls.{saturationPressureOf, saturatedLiquidOf, saturatedVapourOf}
 
 -- the calls by number, at the numbers x and y; a call of one number does not look at y
+abbrev pub estimateCalls : Float → List (ℕ × Answer)
+estimateCalls x =
+    (20, saturationPressureOf r245ca x)
+    ∷ (21, saturatedLiquidOf r245ca x)
+    ∷ (22, saturatedVapourOf r245ca x)
+    ∷ []
+
+abbrev pub propertyCalls : Float → Float → List (ℕ × Answer)
+propertyCalls x y =
+    (10, pressureOf r245ca x y)
+    ∷ (11, energyOf r245ca x y)
+    ∷ (12, enthalpyOf r245ca x y)
+    ∷ (13, isochoricOf r245ca x y)
+    ∷ (14, entropyOf r245ca x y)
+    ∷ (15, gibbsOf r245ca x y)
+    ∷ (16, helmholtzOf r245ca x y)
+    ∷ (17, isobaricOf r245ca x y)
+    ∷ (18, soundSpeedOf r245ca x y)
+    ∷ estimateCalls x
+
 abbrev pub calls : Float → Float → List (ℕ × Answer)
-calls x y = (1, exponentialOf x) ∷ (2, logarithmOf x) ∷ (3, squareRootOf x) ∷ []
+calls x y =
+    (1, exponentialOf x)
+    ∷ (2, logarithmOf x)
+    ∷ (3, squareRootOf x)
+    ∷ propertyCalls x y
 
 -- what the list has under the number n
-abbrev pub lookUp : ℕ → List (ℕ × Answer) → Answer
+unfoldable pub lookUp : ℕ → List (ℕ × Answer) → Answer
 lookUp n [] = Refused UnknownMark
 lookUp n (row ∷ rows) = cond (eqb n (row .0)) (row .1) (lookUp n rows)
 

@@ -2,9 +2,12 @@
 //
 // A question is three little-endian words: the call's number and the bits of two numbers. A reply is
 // two: the code, and the number's bits, or all ones where refused.
+mod calls;
+
 use arithmetic::exponential;
 use arithmetic::logarithm;
 use arithmetic::square_root;
+use calls::answer_from_10;
 use refusals::Answer;
 use refusals::Refusal;
 use refusals::answer_code;
@@ -33,7 +36,7 @@ pub fn answer_to(call: u64, first: u64, second: u64) -> Answer
     if call == 3 {
         return square_root(x);
     }
-    Answer::Refused(Refusal::UnknownMark)
+    answer_from_10(call, x, number(second))
 }
 
 // The number's bits, and all ones where refused.

@@ -1,6 +1,6 @@
 -- `answer_at` meets its contract: the three words are those of the list, of its tail from 8 on and of its tail from 16 on.
 -- Assumes nothing.
-use mathlib.Core.Path.{_∙_, sym}
+use mathlib.Core.Path.{_∙_}
 use borrow.Author.Needs.{needs}
 use borrow.Author.Tests.{le-leb, lt-leb}
 use Rattle.words.proofs.Tail.{tail-read}

@@ -1,8 +1,8 @@
 -- `exp` meets its contract: the work keeps `nan`, so it may be done before or after the test of the range. Assumes nothing.
-use mathlib.Core.Path.{_≡_, refl, sym, _∙_, ap}
+use mathlib.Core.Path.{_≡_, refl, _∙_, ap}
 use borrow.Author.Needs.{needs}
 use lib.Ieee.{Float, nan, mul, add, div, ofInt}
-use Rattle.arithmetic.specs.Checked.{squash, real, two⁻, within, minus, _▷_, _⊕_, _⊗_, _⊘_}
+use Rattle.arithmetic.specs.Checked.{squash, real, two⁻, within, _▷_, _⊕_, _⊗_, _⊘_}
 use Rattle.arithmetic.specs.Exp.{expSteps, squared, expWork, expOf}
 use Rattle.arithmetic.proofs.Operations.{squash-mul, ⊗-squash-left}
 use Rattle.arithmetic.proofs.Forced.{forced}

@@ -1,7 +1,6 @@
 -- `steps` meets its contract. The loop's invariant: the steps that are left, from the present H, end where all sixteen do from
 -- 1. The measure is n. Assumes nothing.
 use mathlib.Core.Path.{_≡_, sym, _∙_}
-use Prim.Native.Nat.{_≤_}
 use native.Mathlib.Omega.{arith}
 use borrow.Author.Needs.{needs}
 use Rattle.arithmetic.specs.Checked.{squash, real}

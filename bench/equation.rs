@@ -1,0 +1,219 @@
+//! The equation in Rust in the package's form: what the temperature alone decides is kept, the damped rows share two
+//! exponentials, and one loop sums.
+use crate::r245ca::{Power, Row, A1, A2, C0, CRITICAL_RHO, CRITICAL_T, M, PAIRS, R, ROWS};
+use crate::{finite_or_nan, rust_exp as exp, rust_ln as ln, rust_root as root};
+
+#[derive(Clone, Copy, Default)]
+struct Sums {
+    s0: f64,
+    s1: f64,
+    s2: f64,
+    t1: f64,
+    t2: f64,
+    st: f64,
+}
+
+struct Kept {
+    tau: f64,
+    ln_tau: f64,
+    powers: [f64; 14],
+    bells: [f64; 14],
+}
+
+struct State {
+    t: f64,
+    rho: f64,
+    tau: f64,
+    ln_tau: f64,
+    delta: f64,
+    sums: Sums,
+}
+
+/// What a row gives: A, q, r, f, g.
+struct Given(f64, f64, f64, f64, f64);
+
+fn exponent(row: &Row) -> f64 {
+    match *row {
+        Row::Plain(p) | Row::Damped(p, _) | Row::Bell(p, _) => p.1,
+    }
+}
+
+fn bell_part(row: &Row, tau: f64) -> f64 {
+    match *row {
+        Row::Bell(_, b) => b.beta * (tau - b.gamma) * (tau - b.gamma),
+        _ => 0.0,
+    }
+}
+
+fn keep(t: f64) -> Kept {
+    let tau = CRITICAL_T / t;
+    let ln_tau = ln(tau);
+    let mut kept = Kept { tau, ln_tau, powers: [0.0; 14], bells: [0.0; 14] };
+    for (power, row) in kept.powers.iter_mut().zip(&ROWS) {
+        *power = exp(exponent(row) * ln_tau);
+    }
+    for (bell, row) in kept.bells.iter_mut().zip(&ROWS) {
+        *bell = bell_part(row, tau);
+    }
+    kept
+}
+
+fn whole_power(x: f64, n: i32) -> f64 {
+    let mut p = 1.0;
+    for _ in 0..n {
+        p *= x;
+    }
+    p
+}
+
+fn x_of(row: &Row, delta: f64, damping: [f64; 2], bell: f64) -> f64 {
+    match *row {
+        Row::Plain(_) => 1.0,
+        Row::Damped(_, l) => damping[if l == 1 { 0 } else { 1 }],
+        Row::Bell(_, b) => exp(-b.eta * (delta - b.epsilon) * (delta - b.epsilon) - bell),
+    }
+}
+
+fn row_of(row: &Row, delta: f64, tau: f64, power: f64, x: f64) -> Given {
+    let a = |Power(n, _, d): Power| n * whole_power(delta, d) * power * x;
+    match *row {
+        Row::Plain(p @ Power(_, t, d)) => {
+            let q = f64::from(d);
+            Given(a(p), q, t, q * q - q, t * t - t)
+        }
+        Row::Damped(p @ Power(_, t, d), l) => {
+            let (delta_l, l) = (whole_power(delta, l), f64::from(l));
+            let q = f64::from(d) - l * delta_l;
+            Given(a(p), q, t, (q * q - q) - (l * l) * delta_l, t * t - t)
+        }
+        Row::Bell(p @ Power(_, t, d), b) => {
+            let d = f64::from(d);
+            let q = d - 2.0 * b.eta * delta * (delta - b.epsilon);
+            let r = t - 2.0 * b.beta * tau * (tau - b.gamma);
+            let f = (q * q - d) - 2.0 * b.eta * delta * delta;
+            Given(a(p), q, r, f, (r * r - t) - 2.0 * b.beta * tau * tau)
+        }
+    }
+}
+
+fn added(s: Sums, Given(a, q, r, f, g): Given) -> Sums {
+    Sums {
+        s0: s.s0 + a,
+        s1: s.s1 + a * q,
+        s2: s.s2 + a * f,
+        t1: s.t1 + a * r,
+        t2: s.t2 + a * g,
+        st: s.st + a * q * r,
+    }
+}
+
+fn sums_at(kept: &Kept, delta: f64) -> Sums {
+    let damping = [exp(-delta), exp(-(delta * delta))];
+    let mut s = Sums::default();
+    for (k, row) in ROWS.iter().enumerate() {
+        let x = x_of(row, delta, damping, kept.bells[k]);
+        s = added(s, row_of(row, delta, kept.tau, kept.powers[k], x));
+    }
+    s
+}
+
+fn state_at(t: f64, rho: f64) -> State {
+    let kept = keep(t);
+    let delta = rho / CRITICAL_RHO;
+    let sums = sums_at(&kept, delta);
+    State { t, rho, tau: kept.tau, ln_tau: kept.ln_tau, delta, sums }
+}
+
+// ---- the ideal part
+
+/// A divisor that is not finite gives no value.
+fn over(dividend: f64, divisor: f64) -> f64 {
+    if divisor.is_finite() {
+        dividend / divisor
+    } else {
+        f64::NAN
+    }
+}
+
+/// Sums start at +0.
+fn total(part: impl Fn(f64, f64) -> f64) -> f64 {
+    let mut sum = 0.0;
+    for &(v, u) in &PAIRS {
+        sum += part(v, u);
+    }
+    sum
+}
+
+fn ideal_0(s: &State) -> f64 {
+    let sum = total(|v, u| v * ln(1.0 - exp(-(u / s.t))));
+    A1 + A2 * s.tau + ln(s.delta) + (C0 - 1.0) * s.ln_tau + sum
+}
+
+fn ideal_1(s: &State) -> f64 {
+    let part = |v: f64, b: f64| over(v * b, exp(b) - 1.0);
+    A2 * s.tau + (C0 - 1.0) + total(|v, u| part(v, u / s.t))
+}
+
+fn ideal_2(s: &State) -> f64 {
+    let part = |v: f64, b: f64, w: f64| over(v * b * b * w, (w - 1.0) * (w - 1.0));
+    (C0 - 1.0) + total(|v, u| part(v, u / s.t, exp(u / s.t)))
+}
+
+// ---- properties
+
+fn pressure_of(t: f64, rho: f64, s1: f64) -> f64 {
+    finite_or_nan(((rho * 1000.0) * (R * t)) * (1.0 + s1))
+}
+
+/// V, K and Q, where they are finite and the state is stable.
+fn stability_of(s: &State) -> Option<(f64, f64, f64)> {
+    let v = ideal_2(s) - s.sums.t2;
+    let k = 1.0 + s.sums.s1 - s.sums.st;
+    let q = 1.0 + 2.0 * s.sums.s1 + s.sums.s2;
+    let finite = v.is_finite() && k.is_finite() && q.is_finite();
+    (finite && q > 0.0 && v > 0.0).then_some((v, k, q))
+}
+
+/// The state where T and the density are in range; a density of minus zero is worked as +0.
+fn permitted(t: f64, rho: f64) -> Option<State> {
+    let inside = (196.0..=450.0).contains(&t) && (0.0..=13.0).contains(&rho);
+    inside.then(|| state_at(t, if rho == 0.0 { 0.0 } else { rho }))
+}
+
+#[no_mangle]
+pub extern "C" fn rust_pressure(t: f64, rho: f64) -> f64 {
+    permitted(t, rho).map_or(f64::NAN, |s| pressure_of(s.t, s.rho, s.sums.s1))
+}
+
+#[no_mangle]
+pub extern "C" fn rust_entropy(t: f64, rho: f64) -> f64 {
+    let value = |s: State| finite_or_nan(R * (ideal_1(&s) + s.sums.t1 - ideal_0(&s) - s.sums.s0));
+    permitted(t, rho).filter(|s| s.rho != 0.0).map_or(f64::NAN, value)
+}
+
+#[no_mangle]
+pub extern "C" fn rust_isobaric(t: f64, rho: f64) -> f64 {
+    let value = |(v, k, q)| finite_or_nan(R * (v + k * k / q));
+    permitted(t, rho).and_then(|s| stability_of(&s)).map_or(f64::NAN, value)
+}
+
+#[no_mangle]
+pub extern "C" fn rust_sound_speed(t: f64, rho: f64) -> f64 {
+    let value = |(v, k, q)| root((R * t) / M * (q + k * k / v));
+    permitted(t, rho).and_then(|s| stability_of(&s)).map_or(f64::NAN, value)
+}
+
+/// The sum of the pressures at T and each of the densities.
+///
+/// # Safety
+///
+/// `densities` points to `count` numbers.
+#[no_mangle]
+pub unsafe extern "C" fn rust_isotherm(t: f64, densities: *const f64, count: usize) -> f64 {
+    let kept = keep(t);
+    let mut total = 0.0;
+    for &rho in core::slice::from_raw_parts(densities, count) {
+        total += pressure_of(t, rho, sums_at(&kept, rho / CRITICAL_RHO).s1);
+    }
+    total
+}

@@ -1,0 +1,41 @@
+/* What is asked of one probe, and how it went. */
+#ifndef ASKED_H
+#define ASKED_H
+
+#include "../wire.h"
+
+enum { CODES = 17, CALLS_MOST = 64 };
+
+/* How many questions were compared, by the code that was expected. */
+struct tally {
+    uint64_t of_code[CODES];
+};
+
+struct asked {
+    const char *probe;
+    uint64_t seed, count;
+    uint64_t passed, failed;
+    struct tally tally;
+};
+
+void record(struct asked *asked, bool passed);
+
+bool same(struct answer a, struct answer b);
+void show_answer(const char *whose, struct answer answer);
+
+void add_code(struct tally *tally, uint64_t code);
+void add_tally(struct tally *sum, const struct tally *tally);
+uint64_t questions_in(const struct tally *tally);
+void show_tally(const struct tally *tally);
+
+/* count random questions, each to one of the calls taken at random. */
+void compare_stream(struct asked *asked, const char *name, const uint64_t *calls,
+                    size_t calls_count);
+
+/* A call of one number does not look at the second. */
+void compare_second(struct asked *asked, uint64_t call);
+
+/* Inputs of 0 to 49 bytes, and one that comes a few bytes at a time. */
+void compare_pieces(struct asked *asked);
+
+#endif
