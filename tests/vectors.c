@@ -19,6 +19,7 @@ static section *const sections[] = {
     root_questions,
     property_questions,
     estimate_questions,
+    search_questions,
     unknown_questions,
 };
 

@@ -33,6 +33,7 @@ typedef void section(struct sheet *sheet);
 section exp_questions, ln_questions, root_questions;
 section property_questions;
 section estimate_questions;
+section search_questions;
 section unknown_questions;
 
 #endif

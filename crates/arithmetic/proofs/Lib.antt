@@ -9,3 +9,4 @@ pub mod Fields
 pub mod Split
 pub mod Zeros
 pub mod Signs
+pub mod Order

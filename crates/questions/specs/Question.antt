@@ -7,19 +7,39 @@ use lib.Dec.{eqb}
 use lib.Ieee.{Float, binary64, ofBits}
 use Rattle.refusals.specs.declared.Refusal.the-variants.{UnknownMark}
 use Rattle.refusals.specs.declared.Answer.{Answer}
-use Rattle.refusals.specs.declared.Answer.the-variants.{Refused}
+use Rattle.refusals.specs.declared.Answer.the-variants.{Number, Refused}
 use Rattle.arithmetic.specs.Calls.{exponentialOf, logarithmOf, squareRootOf}
 use Rattle.fluids.specs.R245ca.{r245ca}
 use Rattle.equation.specs.Calls.{pressureOf, energyOf, enthalpyOf, isochoricOf, entropyOf, gibbsOf, helmholtzOf, isobaricOf, soundSpeedOf}
 use Rattle.saturation.specs.Calls.{saturationPressureOf, saturatedLiquidOf, saturatedVapourOf}
+use Rattle.density.specs.declared.Side.{Side}
+use Rattle.density.specs.declared.Side.the-variants.{FromBelow, FromAbove}
+use Rattle.density.specs.declared.Found.{Found}
+use Rattle.density.specs.declared.Found.the-variants.{State}
+use Rattle.density.specs.Calls.{plainOf}
+
+-- a search's density alone
+abbrev pub foundAnswer : Found → Answer
+foundAnswer (State ρ word) = Number ρ
+foundAnswer (Found.Refused r) = Refused r
+
+-- the plain search over 1,664 cells
+unfoldable pub plainAnswer : Side → Float → Float → Answer
+plainAnswer side T P = foundAnswer (plainOf T P 1664 side)
 
 -- the calls by number, at the numbers x and y; a call of one number does not look at y
-abbrev pub estimateCalls : Float → List (ℕ × Answer)
-estimateCalls x =
+abbrev pub searchCalls : Float → Float → List (ℕ × Answer)
+searchCalls x y =
+    (30, plainAnswer FromBelow x y)
+    ∷ (31, plainAnswer FromAbove x y)
+    ∷ []
+
+abbrev pub estimateCalls : Float → Float → List (ℕ × Answer)
+estimateCalls x y =
     (20, saturationPressureOf r245ca x)
     ∷ (21, saturatedLiquidOf r245ca x)
     ∷ (22, saturatedVapourOf r245ca x)
-    ∷ []
+    ∷ searchCalls x y
 
 abbrev pub propertyCalls : Float → Float → List (ℕ × Answer)
 propertyCalls x y =
@@ -32,7 +52,7 @@ propertyCalls x y =
     ∷ (16, helmholtzOf r245ca x y)
     ∷ (17, isobaricOf r245ca x y)
     ∷ (18, soundSpeedOf r245ca x y)
-    ∷ estimateCalls x
+    ∷ estimateCalls x y
 
 abbrev pub calls : Float → Float → List (ℕ × Answer)
 calls x y =

@@ -1,4 +1,6 @@
 // The calls by number, group after group: who has no call of the number hands it on to the next.
+use crate::searches::plain_answer;
+use density::Side;
 use equation::energy;
 use equation::enthalpy;
 use equation::entropy;
@@ -14,7 +16,7 @@ use saturation::saturated_liquid;
 use saturation::saturated_vapour;
 use saturation::saturation_pressure;
 ghost use mathlib.Core.Path.{_≡_};
-ghost use Rattle.questions.specs.Question.{lookUp, propertyCalls, estimateCalls};
+ghost use Rattle.questions.specs.Question.{lookUp, propertyCalls, estimateCalls, searchCalls};
 
 // 10 to 18, properties at the temperature x and the density y.
 pub(crate) fn answer_from_10(call: u64, x: f64, y: f64) -> Answer
@@ -47,12 +49,12 @@ pub(crate) fn answer_from_10(call: u64, x: f64, y: f64) -> Answer
     if call == 18 {
         return sound_speed(x, y);
     }
-    answer_from_20(call, x)
+    answer_from_20(call, x, y)
 }
 
 // 20 to 22, estimates at the temperature x.
-fn answer_from_20(call: u64, x: f64) -> Answer
-    ensures { λ r. ⌜ r ≡ lookUp call (estimateCalls x) ⌝ }
+fn answer_from_20(call: u64, x: f64, y: f64) -> Answer
+    ensures { λ r. ⌜ r ≡ lookUp call (estimateCalls x y) ⌝ }
 {
     if call == 20 {
         return saturation_pressure(x);
@@ -62,6 +64,19 @@ fn answer_from_20(call: u64, x: f64) -> Answer
     }
     if call == 22 {
         return saturated_vapour(x);
+    }
+    answer_from_30(call, x, y)
+}
+
+// 30 and 31, densities at the temperature x and the pressure y.
+fn answer_from_30(call: u64, x: f64, y: f64) -> Answer
+    ensures { λ r. ⌜ r ≡ lookUp call (searchCalls x y) ⌝ }
+{
+    if call == 30 {
+        return plain_answer(x, y, Side::FromBelow);
+    }
+    if call == 31 {
+        return plain_answer(x, y, Side::FromAbove);
     }
     Answer::Refused(Refusal::UnknownMark)
 }

@@ -3,6 +3,7 @@
 // A question is three little-endian words: the call's number and the bits of two numbers. A reply is
 // two: the code, and the number's bits, or all ones where refused.
 mod calls;
+mod searches;
 
 use arithmetic::exponential;
 use arithmetic::logarithm;

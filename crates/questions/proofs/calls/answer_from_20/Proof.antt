@@ -1,11 +1,12 @@
 -- `answer_from_20` meets its contract: its tests are those of `lookUp`, row by row. Assumes nothing.
 use mathlib.Core.Path.{_∙_, sym}
 use borrow.Author.Needs.{needs}
-use Rattle.questions.proofs.Rows.{found, passed-over, none}
+use Rattle.questions.proofs.Rows.{found, passed-over}
 use Rattle.questions.proofs.calls.answer_from_20.Statement.{statement}
 use Rattle.questions.proofs.calls.answer_from_20.Tie as tie
 use Rattle.questions.proofs.calls.answer_from_20.Reads as reads
 use Rattle.questions.proofs.calls.answer_from_20.Lts as lts
+use Rattle.questions.proofs.calls.answer_from_30.Reads as answer-from-30-reads
 use Rattle.saturation.proofs.saturation_pressure.Reads as saturation-pressure-reads
 use Rattle.saturation.proofs.saturated_liquid.Reads as saturated-liquid-reads
 use Rattle.saturation.proofs.saturated_vapour.Reads as saturated-vapour-reads
@@ -37,8 +38,16 @@ returns-3 c =
     ∙ passed-over _ _ _ _ (c .before .before .if2 .left)
     ∙ found _ _ _ _ (c .before .if3 .taken))
 
+answer-from-30-requires : tie.Need-answer-from-30-requires
+answer-from-30-requires c κs = search needs
+
 returns-4 : tie.Need-returns-4
-returns-4 c = sym (passed-over _ _ _ _ (c .before .before .if1 .left) ∙ passed-over _ _ _ _ (c .before .if2 .left) ∙ passed-over _ _ _ _ (c .if3 .left) ∙ none _)
+returns-4 c =
+    c .answer-from-30 .ensures
+    ∙ sym
+    (passed-over _ _ _ _ (c .before .before .before .if1 .left)
+    ∙ passed-over _ _ _ _ (c .before .before .if2 .left)
+    ∙ passed-over _ _ _ _ (c .before .if3 .left))
 
 pub answer-from-20-spec : {M : Type 1} → statement M
 answer-from-20-spec =
@@ -50,4 +59,5 @@ answer-from-20-spec =
     returns-2
     saturated-vapour-requires
     returns-3
+    answer-from-30-requires
     returns-4)

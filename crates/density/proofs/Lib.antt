@@ -1,0 +1,12 @@
+pub mod Literals
+pub mod Seen
+pub mod StepExact
+pub mod Sweeps
+pub mod Permitted
+pub mod Outcomes
+pub mod NeverNine
+pub mod QuickIsPlain
+pub mod PreparationFails
+pub mod ExactlyEight
+pub mod Encloses
+pub mod Twelve
