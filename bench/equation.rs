@@ -1,7 +1,7 @@
-//! The equation in Rust in the package's form: what the temperature alone decides is kept, the damped rows share two
-//! exponentials, and one loop sums.
+//! The equation in Rust in the package's form: what the temperature alone decides is kept, the powers and the
+//! exponentials are worked seven at a time, rows 6 and 7 are damped as row 9 is, and one loop sums.
 use crate::r245ca::{Power, Row, A1, A2, C0, CRITICAL_RHO, CRITICAL_T, M, PAIRS, R, ROWS};
-use crate::{finite_or_nan, rust_exp as exp, rust_ln as ln, rust_root as root};
+use crate::{finite_or_nan, seven_exps, rust_exp as exp, rust_ln as ln, rust_root as root};
 
 #[derive(Clone, Copy, Default)]
 struct Sums {
@@ -45,17 +45,18 @@ fn bell_part(row: &Row, tau: f64) -> f64 {
     }
 }
 
+/// Two halves of seven rows.
+fn joined(first: [f64; 7], second: [f64; 7]) -> [f64; 14] {
+    core::array::from_fn(|k| if k < 7 { first[k] } else { second[k - 7] })
+}
+
 fn keep(t: f64) -> Kept {
     let tau = CRITICAL_T / t;
     let ln_tau = ln(tau);
-    let mut kept = Kept { tau, ln_tau, powers: [0.0; 14], bells: [0.0; 14] };
-    for (power, row) in kept.powers.iter_mut().zip(&ROWS) {
-        *power = exp(exponent(row) * ln_tau);
-    }
-    for (bell, row) in kept.bells.iter_mut().zip(&ROWS) {
-        *bell = bell_part(row, tau);
-    }
-    kept
+    let half = |from: usize| seven_exps(core::array::from_fn(|k| exponent(&ROWS[from + k]) * ln_tau));
+    let powers = joined(half(0), half(7));
+    let bells = core::array::from_fn(|k| bell_part(&ROWS[k], tau));
+    Kept { tau, ln_tau, powers, bells }
 }
 
 fn whole_power(x: f64, n: i32) -> f64 {
@@ -66,11 +67,20 @@ fn whole_power(x: f64, n: i32) -> f64 {
     p
 }
 
-fn x_of(row: &Row, delta: f64, damping: [f64; 2], bell: f64) -> f64 {
+/// Of a row in the second half, where none is plain.
+fn x_exponent(row: &Row, delta: f64, bell: f64) -> f64 {
     match *row {
-        Row::Plain(_) => 1.0,
-        Row::Damped(_, l) => damping[if l == 1 { 0 } else { 1 }],
-        Row::Bell(_, b) => exp(-b.eta * (delta - b.epsilon) * (delta - b.epsilon) - bell),
+        Row::Plain(_) => 0.0,
+        Row::Damped(_, l) => -whole_power(delta, l),
+        Row::Bell(_, b) => -b.eta * (delta - b.epsilon) * (delta - b.epsilon) - bell,
+    }
+}
+
+/// Of a row in the first half, where none is a bell; rows 8 and 9 are the first two of the second.
+fn first_x(row: &Row, second: &[f64; 7]) -> f64 {
+    match *row {
+        Row::Damped(_, l) => second[if l == 1 { 0 } else { 1 }],
+        _ => 1.0,
     }
 }
 
@@ -108,11 +118,11 @@ fn added(s: Sums, Given(a, q, r, f, g): Given) -> Sums {
 }
 
 fn sums_at(kept: &Kept, delta: f64) -> Sums {
-    let damping = [exp(-delta), exp(-(delta * delta))];
+    let second = seven_exps(core::array::from_fn(|k| x_exponent(&ROWS[7 + k], delta, kept.bells[7 + k])));
+    let xs = joined(core::array::from_fn(|k| first_x(&ROWS[k], &second)), second);
     let mut s = Sums::default();
     for (k, row) in ROWS.iter().enumerate() {
-        let x = x_of(row, delta, damping, kept.bells[k]);
-        s = added(s, row_of(row, delta, kept.tau, kept.powers[k], x));
+        s = added(s, row_of(row, delta, kept.tau, kept.powers[k], xs[k]));
     }
     s
 }

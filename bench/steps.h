@@ -22,6 +22,25 @@ static inline double exp_of(double x) {
     return finite_or_nan(h);
 }
 
+enum { LANES = 7 };
+
+/* exp of each of seven numbers, in place: each step for all seven before the next. */
+static inline void seven_exps(double x[LANES]) {
+    double h[LANES];
+    for (int i = 0; i < LANES; i++) {
+        x[i] = -700.0 <= x[i] && x[i] <= 700.0 ? x[i] * 0x1p-10 : NAN;
+        h[i] = 1.0;
+    }
+    for (int n = 16; n >= 1; n--)
+        for (int i = 0; i < LANES; i++)
+            h[i] = 1.0 + (x[i] * h[i]) / n;
+    for (int k = 0; k < 10; k++)
+        for (int i = 0; i < LANES; i++)
+            h[i] = h[i] * h[i];
+    for (int i = 0; i < LANES; i++)
+        x[i] = finite_or_nan(h[i]);
+}
+
 /* x = m * 2^e with 0.75 <= m < 1.5. */
 struct parts {
     double m;

@@ -28,6 +28,21 @@ pub extern "C" fn rust_exp(x: f64) -> f64 {
     finite_or_nan(h)
 }
 
+/// exp of each of seven numbers: each step for all seven before the next.
+fn seven_exps(x: [f64; 7]) -> [f64; 7] {
+    let y = x.map(|x| if (-700.0..=700.0).contains(&x) { x * 0.0009765625 } else { f64::NAN });
+    let mut h = [1.0; 7];
+    for n in (1..17).rev() {
+        for (h, y) in h.iter_mut().zip(&y) {
+            *h = 1.0 + (y * *h) / f64::from(n);
+        }
+    }
+    for _ in 0..10 {
+        h = h.map(|h| h * h);
+    }
+    h.map(finite_or_nan)
+}
+
 /// x = m·2ᵉ with 0.75 ≤ m < 1.5.
 struct Parts {
     m: f64,
