@@ -1,0 +1,25 @@
+// 01: prepares one isotherm in two lists of its own, asks both searches from both sides for each multiple of 100,000 Pa up to
+// 10,000,000, and prints how many of the 200 pairs of answers differ.
+mod pairs;
+
+use density::Prepared;
+use density::prepare;
+use libc::STDOUT_FILENO;
+use pairs::pairs_that_differ;
+
+fn main() {
+    let mut greatest = [0.0; 1665];
+    let mut least = [0.0; 1665];
+    let prepared = prepare(400.0, 1664, &mut greatest, &mut least);
+    match prepared {
+        Prepared::Ready => {
+            let count = pairs_that_differ(400.0, 1664, &greatest, &least);
+            io::print_decimal(STDOUT_FILENO, count);
+        }
+        Prepared::Refused(r) => {
+            io::write_all(STDOUT_FILENO, b"not prepared: refusal ");
+            io::print_decimal(STDOUT_FILENO, refusals::code(r) as u64);
+        }
+    }
+    io::write_all(STDOUT_FILENO, b"\n");
+}

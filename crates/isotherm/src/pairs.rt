@@ -1,0 +1,81 @@
+// The pairs of answers that differ between the plain search and the quick one.
+use density::Found;
+use density::Side;
+use density::Word;
+use density::found_code;
+use density::plain;
+use density::quick;
+use words::bits;
+ghost use mathlib.Core.Path.{_≡_};
+ghost use Prim.Native.Nat.{_≤_};
+ghost use Rattle.isotherm.specs.Pairs.{wordNumberOf, foundBitsOf, foundWordOf, sameOf, differsAt, differing};
+
+fn word_number(word: Word) -> u64
+    ensures { λ r. ⌜ r ≡ wordNumberOf word ⌝ }
+{
+    match word {
+        Word::Fluid => 1,
+        Word::Vapour => 2,
+        Word::Liquid => 3,
+    }
+}
+
+// The bits of the density, and 0 where there is none.
+fn found_bits(found: Found) -> u64
+    ensures { λ r. ⌜ r ≡ foundBitsOf found ⌝ }
+{
+    match found {
+        Found::State(rho, _) => bits(rho),
+        Found::Refused(_) => 0,
+    }
+}
+
+// The word's number, and 0 where there is none.
+fn found_word(found: Found) -> u64
+    ensures { λ r. ⌜ r ≡ foundWordOf found ⌝ }
+{
+    match found {
+        Found::State(_, word) => word_number(word),
+        Found::Refused(_) => 0,
+    }
+}
+
+// Two answers are the same in code, bits and word.
+fn same(a: Found, b: Found) -> bool
+    ensures { λ r. ⌜ r ≡ sameOf a b ⌝ }
+{
+    if found_code(a) == found_code(b) {
+        if found_bits(a) == found_bits(b) {
+            return found_word(a) == found_word(b);
+        }
+    }
+    false
+}
+
+// 1 where the pair of answers from one side differs.
+fn differs(t: f64, p: f64, c: usize, side: Side, greatest: &[f64], least: &[f64]) -> u64
+    ensures { λ r. ⌜ (r ≡ differsAt t p c side (now (greatest .entry)) (now (least .entry))) × (r ≤ 1) ⌝ }
+{
+    let a = plain(t, p, c, side);
+    let b = quick(t, p, c, side, greatest, least);
+    if same(a, b) { 0 } else { 1 }
+}
+
+// How many of the pairs differ at the first 100 multiples of 100,000 Pa, from both sides.
+pub(crate) fn pairs_that_differ(t: f64, c: usize, greatest: &[f64], least: &[f64]) -> u64
+    ensures { λ r. ⌜ r ≡ differing t c (now (greatest .entry)) (now (least .entry)) 100 ⌝ }
+{
+    let mut count: u64 = 0;
+    let mut n: u64 = 0;
+    while n < 100 {
+        let next = n + 1;
+        let pascals = 100000 * next;
+        let p = pascals as f64;
+        let below = differs(t, p, c, Side::FromBelow, greatest, least);
+        let above = differs(t, p, c, Side::FromAbove, greatest, least);
+        let more = below + above;
+        count = count + more;
+        n = next;
+    }
+    count
+}
