@@ -1,2 +1,3 @@
 pub mod Progress
 mod Rows
+mod Served

@@ -7,7 +7,7 @@ use lib.Ieee.{Float}
 use Rattle.refusals.specs.declared.Refusal.the-variants.{UnknownMark}
 use Rattle.refusals.specs.declared.Answer.{Answer}
 use Rattle.refusals.specs.declared.Answer.the-variants.{Refused}
-use Rattle.questions.specs.Question.{lookUp, propertyCalls}
+use Rattle.questions.specs.Question.{lookUp, elementaryCalls}
 
 module _ (n m : ℕ) (a : Answer) (rows : List (ℕ × Answer)) where
   pub found : n ≡ m → lookUp n ((m, a) ∷ rows) ≡ a
@@ -22,5 +22,5 @@ pub none : (n : ℕ) → lookUp n [] ≡ Refused UnknownMark
 unfolding lookUp
 none n = refl
 
-pub at-numbers : (n : ℕ) (a x b y : Float) → a ≡ x → b ≡ y → lookUp n (propertyCalls a b) ≡ lookUp n (propertyCalls x y)
-at-numbers n a x b y p q = ap (λ (z : Float). lookUp n (propertyCalls z b)) p ∙ ap (λ (z : Float). lookUp n (propertyCalls x z)) q
+pub at-numbers : (n : ℕ) (a x b y : Float) → a ≡ x → b ≡ y → lookUp n (elementaryCalls a b) ≡ lookUp n (elementaryCalls x y)
+at-numbers n a x b y p q = ap (λ (z : Float). lookUp n (elementaryCalls z b)) p ∙ ap (λ (z : Float). lookUp n (elementaryCalls x z)) q

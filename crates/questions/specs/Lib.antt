@@ -1,2 +1,3 @@
 pub mod Question
 pub mod Replies
+pub mod Serving

@@ -4,10 +4,12 @@ use mathlib.Core.Bool.{cond}
 use mathlib.Core.List.{List, [], _∷_}
 use Prim.Native.Nat.{ℕ}
 use lib.Dec.{eqb}
+use lib.ListN.{replicate}
 use lib.Ieee.{Float, binary64, ofBits}
 use Rattle.refusals.specs.declared.Refusal.the-variants.{UnknownMark}
 use Rattle.refusals.specs.declared.Answer.{Answer}
 use Rattle.refusals.specs.declared.Answer.the-variants.{Number, Refused}
+use Rattle.arithmetic.specs.Checked.{real}
 use Rattle.arithmetic.specs.Calls.{exponentialOf, logarithmOf, squareRootOf}
 use Rattle.fluids.specs.R245ca.{r245ca}
 use Rattle.equation.specs.Calls.{pressureOf, energyOf, enthalpyOf, isochoricOf, entropyOf, gibbsOf, helmholtzOf, isobaricOf, soundSpeedOf}
@@ -16,7 +18,7 @@ use Rattle.density.specs.declared.Side.{Side}
 use Rattle.density.specs.declared.Side.the-variants.{FromBelow, FromAbove}
 use Rattle.density.specs.declared.Found.{Found}
 use Rattle.density.specs.declared.Found.the-variants.{State}
-use Rattle.density.specs.Calls.{plainOf}
+use Rattle.density.specs.Calls.{plainOf, greatestAfter, leastAfter, quickOf}
 
 -- a search's density alone
 abbrev pub foundAnswer : Found → Answer
@@ -26,6 +28,20 @@ foundAnswer (Found.Refused r) = Refused r
 -- the plain search over 1,664 cells
 unfoldable pub plainAnswer : Side → Float → Float → Answer
 plainAnswer side T P = foundAnswer (plainOf T P 1664 side)
+
+-- the lists that a preparation of 1,664 cells at T leaves of two lists of 1,665 zeros
+unfoldable pub zeros : List Float
+zeros = replicate 1665 (real 0)
+
+abbrev pub greatestAt : Float → List Float
+greatestAt T = greatestAfter T 1664 zeros zeros
+
+abbrev pub leastAt : Float → List Float
+leastAt T = leastAfter T 1664 zeros zeros
+
+-- the quick search over them
+unfoldable pub quickAnswer : Side → Float → Float → Answer
+quickAnswer side T P = foundAnswer (quickOf T P 1664 side (greatestAt T) (leastAt T))
 
 -- the calls by number, at the numbers x and y; a call of one number does not look at y
 abbrev pub searchCalls : Float → Float → List (ℕ × Answer)
@@ -54,12 +70,19 @@ propertyCalls x y =
     ∷ (18, soundSpeedOf r245ca x y)
     ∷ estimateCalls x y
 
-abbrev pub calls : Float → Float → List (ℕ × Answer)
-calls x y =
+abbrev pub elementaryCalls : Float → Float → List (ℕ × Answer)
+elementaryCalls x y =
     (1, exponentialOf x)
     ∷ (2, logarithmOf x)
     ∷ (3, squareRootOf x)
     ∷ propertyCalls x y
+
+-- those over prepared lists, then those of numbers alone
+abbrev pub calls : Float → Float → List (ℕ × Answer)
+calls x y =
+    (32, quickAnswer FromBelow x y)
+    ∷ (33, quickAnswer FromAbove x y)
+    ∷ elementaryCalls x y
 
 -- what the list has under the number n
 unfoldable pub lookUp : ℕ → List (ℕ × Answer) → Answer

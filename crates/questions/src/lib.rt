@@ -9,9 +9,13 @@ use arithmetic::exponential;
 use arithmetic::logarithm;
 use arithmetic::square_root;
 use calls::answer_from_10;
+use density::Side;
 use refusals::Answer;
 use refusals::Refusal;
 use refusals::answer_code;
+use searches::places;
+use searches::prepare_for;
+use searches::quick_answer;
 use words::bits;
 use words::number;
 use words::put_word;
@@ -19,15 +23,19 @@ use words::word;
 ghost use mathlib.Core.Path.{_≡_};
 ghost use mathlib.Core.List.{_++_};
 ghost use Prim.Native.Nat.{_*_, _≤_};
+ghost use lib.Ieee.{binary64, ofBits};
 ghost use lib.ListN.{length, drop};
-ghost use Rattle.questions.specs.Question.{answerTo};
+ghost use Rattle.questions.specs.Question.{lookUp, elementaryCalls, answerTo};
+ghost use Rattle.questions.specs.Serving.{Serves, ServesCall, ServesNext};
 ghost use Rattle.questions.specs.Replies.{answerBits, replyBytes, answerAt, replyCount, withReplies};
 
-// The answer of the call of that number at the numbers of the two bit patterns.
-pub fn answer_to(call: u64, first: u64, second: u64) -> Answer
-    ensures { λ r. ⌜ r ≡ answerTo call first second ⌝ }
+// The bits of a NaN: over any lists a quick search at a NaN is refused.
+const NO_TEMPERATURE: u64 = 9221120237041090560;
+
+// The calls of numbers alone.
+fn answer_from_1(call: u64, x: f64, y: f64) -> Answer
+    ensures { λ r. ⌜ r ≡ lookUp call (elementaryCalls x y) ⌝ }
 {
-    let x = number(first);
     if call == 1 {
         return exponential(x);
     }
@@ -37,7 +45,47 @@ pub fn answer_to(call: u64, first: u64, second: u64) -> Answer
     if call == 3 {
         return square_root(x);
     }
-    answer_from_10(call, x, number(second))
+    answer_from_10(call, x, y)
+}
+
+// The answer of the call of that number at the numbers of the two bit patterns, over lists that serve it.
+fn answer_over(call: u64, first: u64, second: u64, greatest: &[f64], least: &[f64]) -> Answer
+    requires { ⌜ ServesCall call first (now greatest) (now least) ⌝ }
+    ensures { λ r. ⌜ r ≡ answerTo call first second ⌝ }
+{
+    let x = number(first);
+    let y = number(second);
+    if call == 32 {
+        return quick_answer(x, y, Side::FromBelow, greatest, least);
+    }
+    if call == 33 {
+        return quick_answer(x, y, Side::FromAbove, greatest, least);
+    }
+    answer_from_1(call, x, y)
+}
+
+// Prepares the lists if the call is over lists, and answers.
+fn answer_fresh(
+    call: u64,
+    first: u64,
+    second: u64,
+    greatest: &mut [f64],
+    least: &mut [f64],
+) -> Answer
+    requires { ⌜ (length (now greatest) ≡ 1665) × (length (now least) ≡ 1665) ⌝ }
+    ensures { λ r. ⌜ r ≡ answerTo call first second ⌝ }
+{
+    let kept = prepare_for(call, first, NO_TEMPERATURE, greatest, least);
+    answer_over(call, first, second, greatest, least)
+}
+
+// The answer of the call of that number at the numbers of the two bit patterns.
+pub fn answer_to(call: u64, first: u64, second: u64) -> Answer
+    ensures { λ r. ⌜ r ≡ answerTo call first second ⌝ }
+{
+    let mut greatest = places();
+    let mut least = places();
+    answer_fresh(call, first, second, &mut greatest, &mut least)
 }
 
 // The number's bits, and all ones where refused.
@@ -50,8 +98,23 @@ fn answer_bits(a: Answer) -> u64
     }
 }
 
-// The answer to the question at the front of s; 15 where s is shorter than a question.
-fn answer_at(s: &[u8]) -> Answer
+// Prepares the lists for the question at the front of s, if it is over lists and they serve another temperature; the bits that
+// they serve afterwards.
+fn prepare_next(s: &[u8], kept: u64, greatest: &mut [f64], least: &mut [f64]) -> u64
+    requires { ⌜ Serves (ofBits binary64 kept) (now greatest) (now least) ⌝ }
+    ensures { λ r. ⌜ Serves (ofBits binary64 r) (now (greatest .exit)) (now (least .exit)) × ServesNext (now (s .entry)) (now (greatest .exit)) (now (least .exit)) ⌝ }
+{
+    if s.len() < 24 {
+        return kept;
+    }
+    let call = word(s);
+    let first = word(&s[8..]);
+    prepare_for(call, first, kept, greatest, least)
+}
+
+// The answer to the question at the front of s, over lists that serve it; 15 where s is shorter than a question.
+fn answer_at(s: &[u8], greatest: &[f64], least: &[f64]) -> Answer
+    requires { ⌜ ServesNext (now s) (now greatest) (now least) ⌝ }
     ensures { λ r. ⌜ r ≡ answerAt (now (s .entry)) ⌝ }
 {
     if s.len() < 24 {
@@ -60,7 +123,7 @@ fn answer_at(s: &[u8]) -> Answer
     let call = word(s);
     let first = word(&s[8..]);
     let second = word(&s[16..]);
-    answer_to(call, first, second)
+    answer_over(call, first, second, greatest, least)
 }
 
 // The reply's bytes into the first 16 places.
@@ -73,12 +136,13 @@ fn put_reply(out: &mut [u8], a: Answer)
     put_word(&mut out[8..], answer_bits(a));
 }
 
-// The replies to the questions of input, one after the other, into out, as long as there is room,
-// and how many bytes they take. A piece shorter than a question at the end gets one reply, 15.
-pub fn put_replies(input: &[u8], out: &mut [u8]) -> usize
+// The replies, with two lists that are kept while the bits of the temperature stay the same.
+fn put_replies_over(input: &[u8], out: &mut [u8], greatest: &mut [f64], least: &mut [f64]) -> usize
+    requires { ⌜ (length (now greatest) ≡ 1665) × (length (now least) ≡ 1665) ⌝ }
     ensures { λ r. ⌜ r ≡ 16 * replyCount (now (input .entry)) (now (out .entry)) ⌝ }
     ensures { λ _. ⌜ now (out .exit) ≡ withReplies (now (input .entry)) (now (out .entry)) ⌝ }
 {
+    let mut kept: u64 = NO_TEMPERATURE;
     let mut k: usize = 0;
     while 24 * k < input.len() {
         let from = 24 * k;
@@ -86,9 +150,21 @@ pub fn put_replies(input: &[u8], out: &mut [u8]) -> usize
         if out.len() - to < 16 {
             return to;
         }
-        let a = answer_at(&input[from..]);
+        kept = prepare_next(&input[from..], kept, greatest, least);
+        let a = answer_at(&input[from..], greatest, least);
         put_reply(&mut out[to..], a);
         k += 1;
     }
     16 * k
+}
+
+// The replies to the questions of input, one after the other, into out, as long as there is room,
+// and how many bytes they take. A piece shorter than a question at the end gets one reply, 15.
+pub fn put_replies(input: &[u8], out: &mut [u8]) -> usize
+    ensures { λ r. ⌜ r ≡ 16 * replyCount (now (input .entry)) (now (out .entry)) ⌝ }
+    ensures { λ _. ⌜ now (out .exit) ≡ withReplies (now (input .entry)) (now (out .entry)) ⌝ }
+{
+    let mut greatest = places();
+    let mut least = places();
+    put_replies_over(input, out, &mut greatest, &mut least)
 }

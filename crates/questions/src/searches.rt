@@ -1,10 +1,16 @@
-// A search as an answer: the density alone.
+// The searches as answers: the density alone.
 use density::Found;
 use density::Side;
 use density::plain;
+use density::prepare;
+use density::quick;
 use refusals::Answer;
+use words::number;
 ghost use mathlib.Core.Path.{_≡_};
-ghost use Rattle.questions.specs.Question.{foundAnswer, plainAnswer};
+ghost use lib.Ieee.{binary64, ofBits};
+ghost use lib.ListN.{length};
+ghost use Rattle.questions.specs.Question.{foundAnswer, plainAnswer, quickAnswer};
+ghost use Rattle.questions.specs.Serving.{Serves, ServesCall, overLists};
 
 // The density of a state, or the refusal.
 fn found_answer(found: Found) -> Answer
@@ -20,4 +26,52 @@ pub(crate) fn plain_answer(t: f64, p: f64, side: Side) -> Answer
     ensures { λ r. ⌜ r ≡ plainAnswer side t p ⌝ }
 {
     found_answer(plain(t, p, 1664, side))
+}
+
+// Over lists that serve t.
+pub(crate) fn quick_answer(t: f64, p: f64, side: Side, greatest: &[f64], least: &[f64]) -> Answer
+    requires { ⌜ Serves t (now greatest) (now least) ⌝ }
+    ensures { λ r. ⌜ r ≡ quickAnswer side t p ⌝ }
+{
+    found_answer(quick(t, p, 1664, side, greatest, least))
+}
+
+// Room for the pressures at the ends 0..1,664.
+pub(crate) fn places() -> [f64; 1665]
+    ensures { λ r. ⌜ 1665 ≡ length r ⌝ }
+{
+    [0.0; 1665]
+}
+
+// Whether the call is over prepared lists.
+fn over_lists(call: u64) -> bool
+    ensures { λ r. ⌜ r ≡ overLists call ⌝ }
+{
+    if call == 32 {
+        return true;
+    }
+    call == 33
+}
+
+// Prepares the lists for the temperature of the bits `first` where the call is over lists and they serve another; the bits that
+// they serve afterwards.
+pub(crate) fn prepare_for(
+    call: u64,
+    first: u64,
+    kept: u64,
+    greatest: &mut [f64],
+    least: &mut [f64],
+) -> u64
+    requires { ⌜ Serves (ofBits binary64 kept) (now greatest) (now least) ⌝ }
+    ensures { λ r. ⌜ Serves (ofBits binary64 r) (now (greatest .exit)) (now (least .exit)) × ServesCall call first (now (greatest .exit)) (now (least .exit)) ⌝ }
+{
+    if over_lists(call) {
+        if first == kept {
+            return kept;
+        }
+        let t = number(first);
+        prepare(t, 1664, greatest, least);
+        return first;
+    }
+    kept
 }

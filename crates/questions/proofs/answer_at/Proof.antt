@@ -1,16 +1,13 @@
 -- `answer_at` meets its contract: the three words are those of the list, of its tail from 8 on and of its tail from 16 on.
 -- Assumes nothing.
 use mathlib.Core.Path.{_∙_}
-use borrow.Author.Needs.{needs}
 use borrow.Author.Tests.{le-leb, lt-leb}
 use Rattle.words.proofs.Tail.{tail-read}
 use Rattle.questions.specs.Replies.{answerAt}
+use Rattle.questions.proofs.Served.{next-serves}
+use borrow.Author.Needs.{needs}
 use Rattle.questions.proofs.answer_at.Statement.{statement}
 use Rattle.questions.proofs.answer_at.Tie as tie
-use Rattle.questions.proofs.answer_at.Reads as reads
-use Rattle.questions.proofs.answer_at.Lts as lts
-use Rattle.questions.proofs.answer_to.Reads as answer-to-reads
-use Rattle.words.proofs.word.Reads as word-reads
 
 returns : tie.Need-returns
 unfolding answerAt
@@ -43,8 +40,13 @@ part-word-end-2 c = search needs
 word-requires-3 : tie.Need-word-requires-3
 word-requires-3 c κs = search needs
 
-answer-to-requires : tie.Need-answer-to-requires
-answer-to-requires c κs = search needs
+answer-over-requires : tie.Need-answer-over-requires
+answer-over-requires c κs =
+    let second = c .before .before in
+    let first = second .before .before in
+    let long = first .before in
+    let start = long .before .before .before .before in
+    next-serves (start .args .s .now) _ _ _ _ (first .word .ensures) (second .word2 .ensures) (start .pre) (long .if1 .left)
 
 returns-2 : tie.Need-returns-2
 unfolding answerAt
@@ -52,7 +54,7 @@ returns-2 c =
     let third = c .before in
     let second = third .before .before in
     let first = second .before .before in
-    c .answer-to .ensures
+    c .answer-over .ensures
     ∙ simp (le-leb _ _ (first .before .if1 .left), first .word .ensures, second .word2 .ensures, third .word3 .ensures, tail-read)
 
 pub answer-at-spec : {M : Type 1} → statement M
@@ -69,5 +71,5 @@ answer-at-spec =
     part-word-start-2
     part-word-end-2
     word-requires-3
-    answer-to-requires
+    answer-over-requires
     returns-2)
