@@ -1,4 +1,4 @@
-/* Questions of a temperature and a pressure to the plain searches. */
+/* Questions of a temperature and a pressure to the searches, plain and quick. */
 #include "../independent/bits.h"
 #include "../independent/fluid.h"
 #include "sheet.h"
@@ -35,7 +35,7 @@ static void ask_refusals(struct sheet *sheet, uint64_t call)
 void search_questions(struct sheet *sheet)
 {
     for (size_t i = 0; i < known_calls_count; i++)
-        if (known_calls[i].family == PLAIN_SEARCH) {
+        if (known_calls[i].family == PLAIN_SEARCH || known_calls[i].family == QUICK_SEARCH) {
             ask_states(sheet, known_calls[i].number);
             ask_refusals(sheet, known_calls[i].number);
         }
