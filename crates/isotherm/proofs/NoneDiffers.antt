@@ -13,8 +13,9 @@ use Rattle.density.specs.declared.Found.{Found}
 use Rattle.density.specs.declared.Prepared.the-variants.{Ready}
 use Rattle.density.specs.Calls.{prepareOf, greatestAfter, leastAfter}
 use Rattle.density.specs.Codes.{foundCodeOf}
+use Rattle.outcomes.specs.Parts.{foundBitsOf, foundWordOf}
 use Rattle.density.proofs.QuickIsPlain.{quick-is-plain}
-use Rattle.isotherm.specs.Pairs.{foundBitsOf, foundWordOf, sameOf, differsAt, differing}
+use Rattle.isotherm.specs.Pairs.{sameOf, differsAt, differing}
 
 same-as-itself : (a : Found) → sameOf a a ≡ true
 unfolding sameOf

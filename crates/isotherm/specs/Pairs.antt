@@ -3,32 +3,14 @@ use mathlib.Core.Bool.{Bool, cond, _&&_}
 use mathlib.Core.List.{List}
 use Prim.Native.Nat.{ℕ, zero, suc, _+_, _*_}
 use lib.Dec.{eqb}
-use lib.Ieee.{Float, binary64, toBits}
+use lib.Ieee.{Float}
 use Rattle.arithmetic.specs.Checked.{real}
 use Rattle.density.specs.declared.Side.{Side}
 use Rattle.density.specs.declared.Side.the-variants.{FromBelow, FromAbove}
-use Rattle.density.specs.declared.Word.{Word}
-use Rattle.density.specs.declared.Word.the-variants.{Fluid, Vapour, Liquid}
 use Rattle.density.specs.declared.Found.{Found}
-use Rattle.density.specs.declared.Found.the-variants.{State}
 use Rattle.density.specs.Calls.{plainOf, quickOf}
 use Rattle.density.specs.Codes.{foundCodeOf}
-
--- the bits of the density; 0 where there is none
-abbrev pub foundBitsOf : Found → ℕ
-foundBitsOf (State density word) = toBits binary64 density
-foundBitsOf (Found.Refused r) = 0
-
--- a number for each word
-abbrev pub wordNumberOf : Word → ℕ
-wordNumberOf Fluid = 1
-wordNumberOf Vapour = 2
-wordNumberOf Liquid = 3
-
--- the word's number; 0 where there is none
-abbrev pub foundWordOf : Found → ℕ
-foundWordOf (State density word) = wordNumberOf word
-foundWordOf (Found.Refused r) = 0
+use Rattle.outcomes.specs.Parts.{foundBitsOf, foundWordOf}
 
 -- two answers are the same in code, bits and word
 unfoldable pub sameOf : Found → Found → Bool

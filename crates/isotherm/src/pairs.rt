@@ -1,44 +1,14 @@
 // The pairs of answers that differ between the plain search and the quick one.
 use density::Found;
 use density::Side;
-use density::Word;
 use density::found_code;
 use density::plain;
 use density::quick;
-use words::bits;
+use outcomes::found_bits;
+use outcomes::found_word;
 ghost use mathlib.Core.Path.{_≡_};
 ghost use Prim.Native.Nat.{_≤_};
-ghost use Rattle.isotherm.specs.Pairs.{wordNumberOf, foundBitsOf, foundWordOf, sameOf, differsAt, differing};
-
-fn word_number(word: Word) -> u64
-    ensures { λ r. ⌜ r ≡ wordNumberOf word ⌝ }
-{
-    match word {
-        Word::Fluid => 1,
-        Word::Vapour => 2,
-        Word::Liquid => 3,
-    }
-}
-
-// The bits of the density, and 0 where there is none.
-fn found_bits(found: Found) -> u64
-    ensures { λ r. ⌜ r ≡ foundBitsOf found ⌝ }
-{
-    match found {
-        Found::State(rho, _) => bits(rho),
-        Found::Refused(_) => 0,
-    }
-}
-
-// The word's number, and 0 where there is none.
-fn found_word(found: Found) -> u64
-    ensures { λ r. ⌜ r ≡ foundWordOf found ⌝ }
-{
-    match found {
-        Found::State(_, word) => word_number(word),
-        Found::Refused(_) => 0,
-    }
-}
+ghost use Rattle.isotherm.specs.Pairs.{sameOf, differsAt, differing};
 
 // Two answers are the same in code, bits and word.
 fn same(a: Found, b: Found) -> bool

@@ -1,9 +1,9 @@
 -- `found_bits` meets its contract, by the two forms of what was found. Assumes nothing.
 use mathlib.Core.Path.{_∙_, sym, ap}
-use Rattle.isotherm.specs.Pairs.{foundBitsOf}
+use Rattle.outcomes.specs.Parts.{foundBitsOf}
 use borrow.Author.Needs.{needs}
-use Rattle.isotherm.proofs.pairs.found_bits.Statement.{statement}
-use Rattle.isotherm.proofs.pairs.found_bits.Tie as tie
+use Rattle.outcomes.proofs.found_bits.Statement.{statement}
+use Rattle.outcomes.proofs.found_bits.Tie as tie
 
 enum-known-found : tie.Need-enum-known-found
 enum-known-found c = search needs
