@@ -1,0 +1,42 @@
+/* Questions over given lists, as the program `lists` takes and answers them. */
+#ifndef LISTS_QUESTION_H
+#define LISTS_QUESTION_H
+
+#include "../generator.h"
+#include "../independent/density.h"
+
+enum { LIST_CALLS = 5, PLACES = 1700 };
+
+enum list_call { PLAIN_BELOW, PLAIN_ABOVE, PREPARE, QUICK_BELOW, QUICK_ABOVE };
+
+/* What stands in both lists, by their places. */
+struct held {
+    uint64_t G[PLACES], L[PLACES];
+};
+
+/* lent_G and lent_L places of the lists are lent, or all where there are not as many. */
+struct list_question {
+    uint64_t call, T, P, c, lent_G, lent_L;
+    struct held held;
+};
+
+/* The word is 1 for fluid, 2 for vapour, 3 for liquid, and 0 where there is none. */
+struct list_reply {
+    uint64_t code, bits, word;
+    struct held held;
+};
+
+enum { LIST_QUESTION_WORDS = sizeof(struct list_question) / 8, LIST_REPLY_WORDS = sizeof(struct list_reply) / 8 };
+
+void next_list_question(struct generator *g, struct list_question *question);
+
+/* As the independent implementation answers. */
+void answer_list_question(const struct list_question *question, struct list_reply *reply);
+
+/* Every NaN is one and the same to the program. */
+uint64_t one_nan(uint64_t bits);
+
+/* The first c + 1 places as a preparation at T leaves them; untouched where it refuses. */
+void hold_prepared(struct held *held, double T, uint64_t c);
+
+#endif
