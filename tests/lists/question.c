@@ -67,11 +67,11 @@ static void hold_everywhere(struct held *held, uint64_t bits)
         held->G[i] = held->L[i] = bits;
 }
 
-/* A few places of what was held become NaN, infinite or anything; the last place read, c, among them now and then. */
+/* From one to 1,024 places of what was held become NaN, infinite or anything; place c, which is read first, now and then. */
 static void spoil(struct generator *g, struct held *held, uint64_t c)
 {
-    for (uint64_t left = 1 + below(g, 8); left > 0; left--) {
-        uint64_t place = below(g, 3) == 0 && c < PLACES ? c : below(g, PLACES);
+    for (uint64_t left = (uint64_t)1 << below(g, 11); left > 0; left--) {
+        uint64_t place = below(g, 256) == 0 && c < PLACES ? c : below(g, PLACES);
         held->G[place] = below(g, 2) ? special(g) : any_bits(g);
         held->L[place] = below(g, 2) ? special(g) : any_bits(g);
     }
@@ -103,16 +103,34 @@ static void hold_something(struct generator *g, struct list_question *question)
     }
 }
 
-void next_list_question(struct generator *g, struct list_question *question)
+/* Inputs of which any may be refused. */
+static void ask_anything(struct generator *g, struct list_question *question)
 {
     if (below(g, 2) == 0)
         g->T_bits = temperature(g);
     struct question asked = search(g);
-    question->call = below(g, LIST_CALLS);
     question->T = asked.first;
     question->P = asked.second;
     question->c = cells(g);
     question->lent_G = lent(g, question->c);
     question->lent_L = lent(g, question->c);
+}
+
+/* Inputs that the calls permit, so that what the lists hold decides. */
+static void ask_permitted(struct generator *g, struct list_question *question)
+{
+    question->T = uniform(g, r245ca.T.least, r245ca.T.greatest);
+    question->P = log_uniform(g, r245ca.P.least, r245ca.P.greatest);
+    question->c = below(g, 2) ? r245ca.top : 1 + below(g, r245ca.top);
+    question->lent_G = question->lent_L = PLACES;
+}
+
+void next_list_question(struct generator *g, struct list_question *question)
+{
+    question->call = below(g, LIST_CALLS);
+    if (below(g, 2) == 0)
+        ask_anything(g, question);
+    else
+        ask_permitted(g, question);
     hold_something(g, question);
 }
