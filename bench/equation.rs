@@ -13,7 +13,8 @@ struct Sums {
     st: f64,
 }
 
-struct Kept {
+pub(crate) struct Kept {
+    t: f64,
     tau: f64,
     ln_tau: f64,
     powers: [f64; 14],
@@ -50,13 +51,13 @@ fn joined(first: [f64; 7], second: [f64; 7]) -> [f64; 14] {
     core::array::from_fn(|k| if k < 7 { first[k] } else { second[k - 7] })
 }
 
-fn keep(t: f64) -> Kept {
+pub(crate) fn keep(t: f64) -> Kept {
     let tau = CRITICAL_T / t;
     let ln_tau = ln(tau);
     let half = |from: usize| seven_exps(core::array::from_fn(|k| exponent(&ROWS[from + k]) * ln_tau));
     let powers = joined(half(0), half(7));
     let bells = core::array::from_fn(|k| bell_part(&ROWS[k], tau));
-    Kept { tau, ln_tau, powers, bells }
+    Kept { t, tau, ln_tau, powers, bells }
 }
 
 fn whole_power(x: f64, n: i32) -> f64 {
@@ -175,6 +176,11 @@ fn pressure_of(t: f64, rho: f64, s1: f64) -> f64 {
     finite_or_nan(((rho * 1000.0) * (R * t)) * (1.0 + s1))
 }
 
+/// The pressure at a kept temperature.
+pub(crate) fn pressure_at(kept: &Kept, rho: f64) -> f64 {
+    pressure_of(kept.t, rho, sums_at(kept, rho / CRITICAL_RHO).s1)
+}
+
 /// V, K and Q, where they are finite and the state is stable.
 fn stability_of(s: &State) -> Option<(f64, f64, f64)> {
     let v = ideal_2(s) - s.sums.t2;
@@ -223,7 +229,7 @@ pub unsafe extern "C" fn rust_isotherm(t: f64, densities: *const f64, count: usi
     let kept = keep(t);
     let mut total = 0.0;
     for &rho in core::slice::from_raw_parts(densities, count) {
-        total += pressure_of(t, rho, sums_at(&kept, rho / CRITICAL_RHO).s1);
+        total += pressure_at(&kept, rho);
     }
     total
 }

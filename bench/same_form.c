@@ -68,3 +68,4 @@ static double isotherm_total(double T, const double *densities, size_t count) {
 }
 
 #include "doors.h"
+#include "searches.h"

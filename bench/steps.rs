@@ -3,6 +3,7 @@
 
 mod equation;
 mod r245ca;
+mod searches;
 
 fn finite_or_nan(x: f64) -> f64 {
     if x.is_finite() {

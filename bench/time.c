@@ -12,7 +12,7 @@
 #include <string.h>
 #include <time.h>
 
-enum { INPUTS = 4096, WIDEST = 2, TRIALS = 25, EDGES = 16 };
+enum { INPUTS = 4096, WIDEST = 2, TRIALS = 25, EDGES = 16, PLACES = 1665 };
 
 /* ---- candidates */
 
@@ -48,6 +48,14 @@ DECLARE(entropy, double, double)
 DECLARE(isobaric, double, double)
 DECLARE(sound_speed, double, double)
 DECLARE(isotherm, double, const double *, size_t)
+DECLARE(plain_below, double, double)
+DECLARE(plain_above, double, double)
+DECLARE(quick, double, double, const double *, size_t, const double *, size_t)
+
+uint32_t verriblom_prepare(double, double *, size_t, double *, size_t);
+uint32_t c_o2_prepare(double, double *, size_t, double *, size_t);
+uint32_t c_o3_prepare(double, double *, size_t, double *, size_t);
+uint32_t rust_prepare(double, double *, size_t, double *, size_t);
 
 /* ---- calls */
 
@@ -75,6 +83,33 @@ static double sum_of_two(candidate *f, const double *inputs, int count) {
 static double sum_along(candidate *f, const double *inputs, int count) {
     double (*call)(double, const double *, size_t) = (double (*)(double, const double *, size_t))f;
     return call(400.0, inputs, (size_t)count);
+}
+
+/* All places of both lists count, so that a difference in one shows. */
+static double sum_of_lists(candidate *f, const double *inputs, int count) {
+    static double G[PLACES], L[PLACES];
+    uint32_t (*call)(double, double *, size_t, double *, size_t) =
+        (uint32_t (*)(double, double *, size_t, double *, size_t))f;
+    double total = 0.0;
+    for (int i = 0; i < count; i++) {
+        total += call(inputs[i], G, PLACES, L, PLACES);
+        for (int j = 0; j < PLACES; j++)
+            total += G[j] - 0.5 * L[j];
+    }
+    return total;
+}
+
+/* Over lists prepared at 400 K. */
+static double sum_of_quick(candidate *f, const double *inputs, int count) {
+    static double G[PLACES], L[PLACES];
+    double (*call)(double, double, const double *, size_t, const double *, size_t) =
+        (double (*)(double, double, const double *, size_t, const double *, size_t))f;
+    if (G[PLACES - 1] == 0.0)
+        verriblom_prepare(400.0, G, PLACES, L, PLACES);
+    double total = call(400.0, inputs[0], G, PLACES, L, PLACES);
+    for (int i = 1; i < count; i++)
+        total += call(400.0, inputs[i], G, PLACES, L, PLACES);
+    return total;
 }
 
 /* ---- inputs */
@@ -131,6 +166,22 @@ static void draw_density(double *input) {
     *input = uniform(0.0, 13.0);
 }
 
+static void draw_temperature(double *input) {
+    *input = uniform(196.0, 450.0);
+}
+
+static void draw_pressure(double *input) {
+    *input = log_uniform(1.0, 1e7);
+}
+
+/* A question that either plain search answers. */
+static void draw_question(double *input) {
+    do {
+        draw_temperature(input);
+        draw_pressure(input + 1);
+    } while (isnan(verriblom_plain_below(input[0], input[1])) || isnan(verriblom_plain_above(input[0], input[1])));
+}
+
 /* ---- rows */
 
 struct row {
@@ -143,6 +194,8 @@ struct row {
     /* Inputs that are compared and not timed: the ends of the range, and what lies outside. */
     int edges;
     double edge[EDGES * WIDEST];
+    /* How many inputs are timed, and 0 for all INPUTS: a search takes a thousand times as long as a pressure. */
+    int fewer;
 };
 
 #define OUTSIDE NAN, INFINITY, -INFINITY, 0.0, -0.0
@@ -153,29 +206,43 @@ struct row {
          300.0, 0x1.a000000000001p+3, 300.0, -0x1p-1074, 250.0, -0.0, 250.0, 0x1p-80, 250.0, 5.0, 447.57, 3.92,       \
          NAN, 1.0, 300.0, NAN, INFINITY, 1.0, 300.0, INFINITY}
 
+/* Ends of the ranges, what lies outside, and what is no number. */
+#define QUESTION_EDGES                                                                                                \
+    10, {196.0, 1.0, 450.0, 1e7, 450.0, 1.0, 196.0, 1e7, 0x1.87fffffffffffp+7, 1e5, 0x1.c200000000001p+8, 1e5,        \
+         300.0, 0.5, 300.0, 0x1.312d000000001p+23, NAN, 1e5, 300.0, NAN}
+
 static const struct row rows[] = {
-    {"exp", "-50 .. 50", 1, draw_exp_near, sum_of_one, ALL_BUT_NAIVE(exp), 0, {0.0}},
+    {"exp", "-50 .. 50", 1, draw_exp_near, sum_of_one, ALL_BUT_NAIVE(exp), 0, {0.0}, 0},
     {"exp", "-700 .. 700", 1, draw_exp_far, sum_of_one, ALL_BUT_NAIVE(exp), 10,
-     {OUTSIDE, 0x1p-1074, -700.0, 700.0, -0x1.5e00000000001p+9, 0x1.5e00000000001p+9}},
+     {OUTSIDE, 0x1p-1074, -700.0, 700.0, -0x1.5e00000000001p+9, 0x1.5e00000000001p+9}, 0},
     {"ln", "2^-60 .. 2^60", 1, draw_ln, sum_of_one, ALL_BUT_NAIVE(ln), 14,
      {OUTSIDE, -1.0, 1.0, 0x1.7ffffffffffffp+0, 1.5, 0x1.fffffffffffffp-1, 0x1p-60, 0x1p60, 0x1.fffffffffffffp-61,
-      0x1.0000000000001p+60}},
+      0x1.0000000000001p+60}, 0},
     {"root", "1 .. 1e8", 1, draw_root, sum_of_one, ALL_BUT_NAIVE(root), 11,
-     {OUTSIDE, -1.0, 1.0, 65536.0, 1e8, 0x1.fffffffffffffp-1, 0x1.7d78400000001p+26}},
-    {"pressure", "states", 2, draw_state, sum_of_two, ALL_OF(pressure), STATE_EDGES},
-    {"entropy", "states", 2, draw_state, sum_of_two, ALL_OF(entropy), STATE_EDGES},
-    {"isobaric heat capacity", "states", 2, draw_state, sum_of_two, ALL_OF(isobaric), STATE_EDGES},
-    {"sound speed", "states", 2, draw_state, sum_of_two, ALL_OF(sound_speed), STATE_EDGES},
-    {"pressure", "densities at 400 K", 1, draw_density, sum_along, ALL_OF(isotherm), 7, {OUTSIDE, 0x1p-80, 13.0}},
+     {OUTSIDE, -1.0, 1.0, 65536.0, 1e8, 0x1.fffffffffffffp-1, 0x1.7d78400000001p+26}, 0},
+    {"pressure", "states", 2, draw_state, sum_of_two, ALL_OF(pressure), STATE_EDGES, 0},
+    {"entropy", "states", 2, draw_state, sum_of_two, ALL_OF(entropy), STATE_EDGES, 0},
+    {"isobaric heat capacity", "states", 2, draw_state, sum_of_two, ALL_OF(isobaric), STATE_EDGES, 0},
+    {"sound speed", "states", 2, draw_state, sum_of_two, ALL_OF(sound_speed), STATE_EDGES, 0},
+    {"pressure", "densities at 400 K", 1, draw_density, sum_along, ALL_OF(isotherm), 7, {OUTSIDE, 0x1p-80, 13.0}, 0},
+    {"plain search", "from below", 2, draw_question, sum_of_two, ALL_BUT_NAIVE(plain_below), QUESTION_EDGES, 16},
+    {"plain search", "from above", 2, draw_question, sum_of_two, ALL_BUT_NAIVE(plain_above), QUESTION_EDGES, 16},
+    {"preparation", "temperatures", 1, draw_temperature, sum_of_lists, ALL_BUT_NAIVE(prepare), 2, {196.0, 450.0}, 4},
+    {"quick search", "pressures at 400 K", 1, draw_pressure, sum_of_quick, ALL_BUT_NAIVE(quick), 8,
+     {OUTSIDE, 0.5, 1.0, 1e7}, 256},
 };
 enum { ROWS = sizeof rows / sizeof *rows };
 
 static double inputs[INPUTS * WIDEST];
 
+static int timed(const struct row *row) {
+    return row->fewer > 0 ? row->fewer : INPUTS;
+}
+
 /* Each row's inputs start from the same word, so that a row that is added changes no other row's. */
 static void draw_inputs(const struct row *row) {
     state = 245;
-    for (int i = 0; i < INPUTS; i++)
+    for (int i = 0; i < timed(row); i++)
         row->draw(inputs + i * row->width);
 }
 
@@ -226,7 +293,7 @@ static int has_value(const struct row *row, const double *input) {
 
 static int checked(const struct row *row) {
     draw_inputs(row);
-    for (int i = 0; i < INPUTS; i++)
+    for (int i = 0; i < timed(row); i++)
         if (!agreed(row, inputs + i * row->width) || !has_value(row, inputs + i * row->width))
             return 0;
     for (int i = 0; i < row->edges; i++)
@@ -236,15 +303,16 @@ static int checked(const struct row *row) {
 }
 
 static int all_checked(void) {
-    int edges = 0;
+    int inputs_timed = 0, edges = 0;
     for (int r = 0; r < ROWS; r++) {
         if (!checked(rows + r))
             return 0;
+        inputs_timed += timed(rows + r);
         edges += rows[r].edges;
     }
     printf("all candidates give the same bits on all %d timed inputs,\n"
            "and on %d more at the ends of the ranges and outside\n",
-           ROWS * INPUTS, edges);
+           inputs_timed, edges);
     return 1;
 }
 
@@ -261,8 +329,8 @@ static volatile double used;
 
 static double pass(const struct row *row, int by) {
     double start = now();
-    used = row->sum(row->by[by], inputs, INPUTS);
-    return (now() - start) / INPUTS;
+    used = row->sum(row->by[by], inputs, timed(row));
+    return (now() - start) / timed(row);
 }
 
 /* The least of all trials: what disturbs a pass only adds to it. The candidates take turns, and the first of a trial is
