@@ -1,0 +1,9 @@
+pub mod Words
+pub mod Refusals
+pub mod Arithmetic
+pub mod Fluids
+pub mod Equation
+pub mod Saturation
+pub mod Density
+pub mod Outcomes
+pub mod Questions

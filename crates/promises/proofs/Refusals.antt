@@ -1,0 +1,13 @@
+-- Each public call of the crate `refusals` promises one outcome: its contract gives it by a definition of its arguments.
+use mathlib.Core.Path.{sym, _∙_}
+use Rattle.promises.specs.OneOutcome.{OneResult}
+use Rattle.refusals.proofs.code.Kinds as code-kinds
+use Rattle.refusals.proofs.code.Reads as code-reads
+use Rattle.refusals.proofs.answer_code.Kinds as answer-code-kinds
+use Rattle.refusals.proofs.answer_code.Reads as answer-code-reads
+
+pub code-one : OneResult _ code-kinds.ps code-kinds.r code-reads.Learnt
+code-one κs a x y e f p q = p ∙ sym q
+
+pub answer-code-one : OneResult _ answer-code-kinds.ps answer-code-kinds.r answer-code-reads.Learnt
+answer-code-one κs a x y e f p q = p ∙ sym q
