@@ -7,3 +7,4 @@ pub mod Saturation
 pub mod Density
 pub mod Outcomes
 pub mod Questions
+pub mod Bench
