@@ -1,0 +1,69 @@
+-- 01, "Marked records": a two-byte mark and two binary64 numbers, little-endian; what a record asks, and its answer.
+use mathlib.Core.Bool.{cond}
+use mathlib.Core.List.{List}
+use Prim.Native.Nat.{ℕ}
+use lib.Dec.{eqb}
+use lib.Ieee.{Float, binary64, ofBits}
+use lib.ListN.{length, drop}
+use Rattle.refusals.specs.declared.Refusal.the-variants.{NoReading, UnknownMark, CutShort}
+use Rattle.refusals.specs.declared.Answer.{Answer}
+use Rattle.refusals.specs.declared.Answer.the-variants.{Number}
+use Rattle.words.specs.Word.{byteAt, wordOf}
+use Rattle.fluids.specs.R245ca.{r245ca}
+use Rattle.equation.specs.Calls.{pressureOf}
+use Rattle.density.specs.declared.Side.{Side}
+use Rattle.density.specs.declared.Side.the-variants.{FromBelow, FromAbove}
+use Rattle.density.specs.declared.Found.{Found}
+use Rattle.density.specs.Calls.{plainOf}
+use Rattle.records.specs.declared.Mark.{Mark}
+use Rattle.records.specs.declared.Mark.the-variants.{TD, TB, TA, TP, TN, Unknown}
+use Rattle.records.specs.declared.Reading.{Reading}
+use Rattle.records.specs.declared.Reading.the-variants.{State, Search}
+
+-- the second letter: D, B, A, P, N
+abbrev pub letterOf : ℕ → Mark
+letterOf b = cond (eqb b 68) TD (cond (eqb b 66) TB (cond (eqb b 65) TA (cond (eqb b 80) TP (cond (eqb b 78) TN Unknown))))
+
+-- the first letter is T
+unfoldable pub markOf : List ℕ → Mark
+markOf s = cond (eqb (byteAt s 0) 84) (letterOf (byteAt s 1)) Unknown
+
+-- the numbers after the mark; every NaN pattern is a NaN
+unfoldable pub firstNumberOf : List ℕ → Float
+firstNumberOf s = ofBits binary64 (wordOf (drop 2 s))
+
+unfoldable pub secondNumberOf : List ℕ → Float
+secondNumberOf s = ofBits binary64 (wordOf (drop 10 s))
+
+-- TD temperature and density; TB and TA temperature and pressure, from below and from above; TP the same with no side given,
+-- taken from below; TN no reading, its sixteen bytes not looked at. Other marks: 14
+abbrev pub askedBy : Mark → List ℕ → Reading
+askedBy TD s = State (firstNumberOf s) (secondNumberOf s)
+askedBy TB s = Search (firstNumberOf s) (secondNumberOf s) FromBelow
+askedBy TA s = Search (firstNumberOf s) (secondNumberOf s) FromAbove
+askedBy TP s = Search (firstNumberOf s) (secondNumberOf s) FromBelow
+askedBy TN s = Reading.Refused NoReading
+askedBy Unknown s = Reading.Refused UnknownMark
+
+-- a record has exactly 18 bytes, else 15
+unfoldable pub readingOf : List ℕ → Reading
+readingOf s = cond (eqb (length s) 18) (askedBy (markOf s) s) (Reading.Refused CutShort)
+
+-- ---- the answer
+
+-- the density of what a search found, or its refusal
+abbrev pub foundAnswer : Found → Answer
+foundAnswer (Found.State ρ word) = Number ρ
+foundAnswer (Found.Refused r) = Answer.Refused r
+
+-- searches here use c = 1,664
+unfoldable pub densityOf : Float → Float → Side → Answer
+densityOf T P side = foundAnswer (plainOf T P 1664 side)
+
+abbrev pub workOf : Reading → Answer
+workOf (State T ρ) = pressureOf r245ca T ρ
+workOf (Search T P side) = densityOf T P side
+workOf (Reading.Refused r) = Answer.Refused r
+
+unfoldable pub answerOf : List ℕ → Answer
+answerOf s = workOf (readingOf s)
