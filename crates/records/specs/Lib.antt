@@ -1,2 +1,4 @@
-pub mod Record
 pub mod Call
+pub mod Lines
+pub mod Record
+pub mod Text

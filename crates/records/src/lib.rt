@@ -2,12 +2,16 @@
 //
 // Units: K, mol/dm³, Pa.
 mod answered;
+mod lines;
 mod order;
 mod reader;
+mod text;
 
 pub use answered::answer;
 use answered::worked;
 use density::Side;
+pub use lines::header;
+pub use lines::put_lines;
 use order::permit;
 pub use reader::mark_of;
 pub use reader::read;

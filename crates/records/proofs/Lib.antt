@@ -1,0 +1,4 @@
+pub mod Digits
+pub mod Lengths
+pub mod Placing
+pub mod Printed
