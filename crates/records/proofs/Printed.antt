@@ -11,7 +11,7 @@ use lib.Dec.{leb}
 use lib.ListN.{length, take, drop, length-append, length-drop}
 use lib.Seq.{take-all, take-length}
 use Rattle.records.specs.Text.{Put}
-use Rattle.records.specs.Lines.{lineOf, linesUpTo, recordCount, linesOf}
+use Rattle.records.specs.Lines.{lineOf, linesUpTo, recordCount, linesOf, linesPut}
 use Rattle.records.proofs.Lengths.{line-small}
 use Rattle.records.proofs.Placing.{nothing, then, as-text, put-length}
 
@@ -75,3 +75,8 @@ module _ (first : ℕ) (s out₀ out : List ℕ) (k at : ℕ) (h : Printed first
   finished b c =
       let all : k ≡ (length s + 17) / 18 = omega arith in
       as-text (ap (linesUpTo first s) all) (h .so-far)
+
+-- what was printed lies inside the list
+pub lines-inside : (first : ℕ) (s out now : List ℕ) (r : ℕ) → r ≡ length (linesPut first s out) → now ≡ linesPut first s out ++ drop r out →
+    r ≤ length now
+lines-inside first s out now r p q = rw (q, length-append) (omega arith)
