@@ -1,0 +1,79 @@
+/*
+ * Verriblom: R-245ca, one record at a time.
+ *
+ * A record is 18 bytes: a two-letter mark and two binary64 numbers, the lowest byte first.
+ *
+ *     TD   temperature, density     asks for the pressure
+ *     TB   temperature, pressure    asks for the density, searched from below (the vapour side)
+ *     TA   temperature, pressure    asks for the density, searched from above (the liquid side)
+ *     TP   temperature, pressure    no side given: taken from below
+ *     TN   no reading: refused with 1, its sixteen bytes are not looked at
+ *
+ * Units: K, mol/dm3, Pa. Ranges, ends included: 196 to 450 K, 0 to 13 mol/dm3, 1 to 10,000,000 Pa.
+ */
+#ifndef VERRIBLOM_H
+#define VERRIBLOM_H
+
+#include <stddef.h>
+#include <stdint.h>
+
+#ifdef __cplusplus
+extern "C" {
+#endif
+
+#define VERRIBLOM_RECORD_BYTES 18
+#define VERRIBLOM_NUMBER_BYTES 8
+
+#define VERRIBLOM_MARK_TEMPERATURE_DENSITY "TD"
+#define VERRIBLOM_MARK_FROM_BELOW "TB"
+#define VERRIBLOM_MARK_FROM_ABOVE "TA"
+#define VERRIBLOM_MARK_NO_SIDE "TP"
+#define VERRIBLOM_MARK_NO_READING "TN"
+
+/*
+ * What verriblom_answer returns. Where several refusals apply the first of 15, 14, 1, 2, 3, 4, 5, 7
+ * counts, then as the work meets 8, 9, 12.
+ */
+enum verriblom_code {
+    /* the first eight bytes of the output hold the number */
+    VERRIBLOM_ANSWERED = 0,
+    /* the record says "no reading" */
+    VERRIBLOM_NO_READING = 1,
+    /* an input number is NaN or infinite */
+    VERRIBLOM_INPUT_NOT_FINITE = 2,
+    /* the temperature is outside 196 to 450 K */
+    VERRIBLOM_TEMPERATURE_OUTSIDE = 3,
+    /* the density is outside 0 to 13 mol/dm3 */
+    VERRIBLOM_DENSITY_OUTSIDE = 4,
+    /* the pressure is outside 1 to 10,000,000 Pa */
+    VERRIBLOM_PRESSURE_OUTSIDE = 5,
+    /* the output has less than eight bytes */
+    VERRIBLOM_OUTPUT_TOO_SHORT = 7,
+    /* no cell of the search has the pressure */
+    VERRIBLOM_NO_CELL = 8,
+    /* 23 halvings did not end at neighbours */
+    VERRIBLOM_NOT_NEIGHBOURS = 9,
+    /* a worked value is not finite */
+    VERRIBLOM_WORK_NOT_FINITE = 12,
+    /* the first two bytes are no mark */
+    VERRIBLOM_UNKNOWN_MARK = 14,
+    /* the record has not exactly 18 bytes */
+    VERRIBLOM_RECORD_CUT_SHORT = 15
+};
+
+/*
+ * Answers the record of record_len bytes. Returns 0 and puts the bits of the pressure in Pa or of
+ * the density in mol/dm3 into the first eight bytes of out, the lowest first; or returns the
+ * refusal's number and leaves out as it was. No byte of out after the eighth ever changes, and no
+ * byte of the record does.
+ *
+ * record and out point to that many bytes, do not overlap, and are not null, also where a length
+ * is 0. Nothing is kept between calls, so that calls may run at the same time.
+ */
+uint32_t verriblom_answer(const uint8_t *record, size_t record_len, uint8_t *out, size_t out_len);
+
+#ifdef __cplusplus
+}
+#endif
+
+#endif

@@ -1,0 +1,108 @@
+"""R-245ca's pressure and density by Verriblom's C call.
+
+The shared library is `libverriblom.so` beside this file, or the file that the
+environment variable VERRIBLOM_LIBRARY names.
+
+>>> pressure(250.0, 0.0)
+0.0
+>>> answer(b"TN" + bytes(16))
+Traceback (most recent call last):
+verriblom.Refused: 1, NO_READING: the record says "no reading"
+
+Units: K, mol/dm³, Pa. Ranges, ends included: 196 to 450 K, 0 to 13 mol/dm³,
+1 to 10,000,000 Pa.
+"""
+
+from __future__ import annotations
+
+import ctypes
+import enum
+import os
+import pathlib
+import struct
+
+__all__ = ["Mark", "Refusal", "Refused", "answer", "density", "pressure", "record"]
+
+
+class Mark(enum.Enum):
+    """The two letters at a record's front."""
+
+    TEMPERATURE_DENSITY = b"TD"
+    FROM_BELOW = b"TB"
+    FROM_ABOVE = b"TA"
+    NO_SIDE = b"TP"
+    NO_READING = b"TN"
+
+
+class Refusal(enum.IntEnum):
+    """The refusals by number and name, each with what it says."""
+
+    def __new__(cls, number: int, meaning: str) -> Refusal:
+        refusal = int.__new__(cls, number)
+        refusal._value_ = number
+        refusal.meaning = meaning
+        return refusal
+
+    meaning: str
+
+    NO_READING = 1, 'the record says "no reading"'
+    INPUT_NOT_FINITE = 2, "an input number is NaN or infinite"
+    TEMPERATURE_OUTSIDE = 3, "the temperature is outside 196 to 450 K"
+    DENSITY_OUTSIDE = 4, "the density is outside 0 to 13 mol/dm³"
+    PRESSURE_OUTSIDE = 5, "the pressure is outside 1 to 10,000,000 Pa"
+    OUTPUT_TOO_SHORT = 7, "the output has less than eight bytes"
+    NO_CELL = 8, "no cell of the search has the pressure"
+    NOT_NEIGHBOURS = 9, "23 halvings did not end at neighbours"
+    WORK_NOT_FINITE = 12, "a worked value is not finite"
+    UNKNOWN_MARK = 14, "the first two bytes are no mark"
+    RECORD_CUT_SHORT = 15, "the record has not exactly 18 bytes"
+
+
+class Refused(Exception):
+    """A record was refused; `refusal` says why. There is no number."""
+
+    def __init__(self, refusal: Refusal) -> None:
+        super().__init__(f"{int(refusal)}, {refusal.name}: {refusal.meaning}")
+        self.refusal = refusal
+
+
+def _loaded() -> ctypes._CFuncPtr:
+    beside = pathlib.Path(__file__).resolve().with_name("libverriblom.so")
+    library = ctypes.CDLL(os.environ.get("VERRIBLOM_LIBRARY", str(beside)))
+    call = library.verriblom_answer
+    call.argtypes = [ctypes.c_char_p, ctypes.c_size_t, ctypes.c_char_p, ctypes.c_size_t]
+    call.restype = ctypes.c_uint32
+    return call
+
+
+_call = _loaded()
+
+
+def record(mark: Mark, first: float, second: float) -> bytes:
+    """The record of a mark and two numbers."""
+    return mark.value + struct.pack("<dd", first, second)
+
+
+def answer(marked: bytes) -> float:
+    """The pressure in Pa or the density in mol/dm³ that a record asks for; raises Refused."""
+    out = ctypes.create_string_buffer(8)
+    code = _call(bytes(marked), len(marked), out, len(out))
+    if code != 0:
+        raise Refused(Refusal(code))
+    return struct.unpack("<d", out.raw)[0]
+
+
+def pressure(temperature: float, density: float) -> float:
+    """The pressure in Pa at a temperature in K and a density in mol/dm³; raises Refused."""
+    return answer(record(Mark.TEMPERATURE_DENSITY, temperature, density))
+
+
+def density(temperature: float, pressure: float, side: Mark = Mark.NO_SIDE) -> float:
+    """The density in mol/dm³ at a temperature in K and a pressure in Pa; raises Refused.
+
+    `side` is FROM_BELOW (the vapour side), FROM_ABOVE (the liquid side), or
+    NO_SIDE, which is taken from below.
+    """
+    if side not in (Mark.FROM_BELOW, Mark.FROM_ABOVE, Mark.NO_SIDE):
+        raise ValueError(f"{side} is no side")
+    return answer(record(side, temperature, pressure))

@@ -1,0 +1,103 @@
+/*
+ * The C call against the independent implementation: random records of 0 to 40 bytes and outputs
+ * of 0 to 20, codes and all bytes compared. Record and output each end where memory that may not
+ * be touched begins.
+ *
+ *     differential SEED COUNT ONE_SEARCH_IN
+ */
+#include "../../include/verriblom.h"
+#include "../generator/draw.h"
+#include "../independent/bits.h"
+#include "../wire.h"
+#include "drawn.h"
+#include "guarded.h"
+#include "record.h"
+
+#include <inttypes.h>
+#include <stdio.h>
+#include <stdlib.h>
+#include <string.h>
+
+enum { LONGEST_OUTPUT = 20, DIFFERENCES_SHOWN = 5, CODES = 17 };
+
+struct memory {
+    uint8_t *record, *out;
+    size_t record_page, out_page;
+};
+
+struct counts {
+    uint64_t passed, failed, of_code[CODES];
+};
+
+static void show(const struct drawn *drawn, size_t room, uint32_t got, uint64_t wanted)
+{
+    printf("  record");
+    for (size_t k = 0; k < drawn->length; k++)
+        printf(" %02x", drawn->bytes[k]);
+    printf(", output of %zu: code %" PRIu32 ", expected %" PRIu64 ", or other bytes\n", room, got,
+           wanted);
+}
+
+/* The output as it should be afterwards. */
+static uint64_t expect(const struct drawn *drawn, uint8_t *out, size_t room)
+{
+    struct outcome outcome = record_outcome(drawn->bytes, drawn->length, room);
+    if (outcome.code == ANSWERED)
+        put_number(out, bits_of(outcome.value));
+    return outcome.code;
+}
+
+static void compare_one(struct generator *g, struct memory *memory, uint64_t one_search_in,
+                        struct counts *counts)
+{
+    struct drawn drawn = drawn_record(g, one_search_in);
+    size_t room = below(g, 4) == 0 ? below(g, LONGEST_OUTPUT + 1) : NUMBER_BYTES + below(g, 13);
+    uint8_t *record = memory->record + memory->record_page - drawn.length;
+    uint8_t *out = memory->out + memory->out_page - room;
+    uint8_t wanted[LONGEST_OUTPUT];
+    memcpy(record, drawn.bytes, drawn.length);
+    for (size_t k = 0; k < room; k++)
+        out[k] = wanted[k] = (uint8_t)any_bits(g);
+
+    uint64_t code = expect(&drawn, wanted, room);
+    uint32_t got = verriblom_answer(record, drawn.length, out, room);
+    counts->of_code[code]++;
+    if (got == code && memcmp(out, wanted, room) == 0
+        && memcmp(record, drawn.bytes, drawn.length) == 0) {
+        counts->passed++;
+    } else if (counts->failed++ < DIFFERENCES_SHOWN) {
+        show(&drawn, room, got, code);
+    }
+}
+
+static void show_codes(const struct counts *counts)
+{
+    printf("codes met:");
+    for (int code = 0; code < CODES; code++)
+        if (counts->of_code[code] != 0)
+            printf(" %d (%" PRIu64 ")", code, counts->of_code[code]);
+    printf("\n");
+}
+
+int main(int argc, char **argv)
+{
+    if (argc != 4) {
+        fprintf(stderr, "usage: differential SEED COUNT ONE_SEARCH_IN\n");
+        return 2;
+    }
+    struct generator g = { .state = strtoull(argv[1], NULL, 10) };
+    uint64_t count = strtoull(argv[2], NULL, 10), one_search_in = strtoull(argv[3], NULL, 10);
+    struct memory memory = { 0 };
+    memory.record = guarded_page(&memory.record_page);
+    memory.out = guarded_page(&memory.out_page);
+    if (memory.record == NULL || memory.out == NULL) {
+        fprintf(stderr, "differential: no guarded memory\n");
+        return 2;
+    }
+    struct counts counts = { 0 };
+    for (uint64_t i = 0; i < count; i++)
+        compare_one(&g, &memory, one_search_in, &counts);
+    show_codes(&counts);
+    printf("%" PRIu64 " passed, %" PRIu64 " failed\n", counts.passed, counts.failed);
+    return counts.failed != 0;
+}
