@@ -1,0 +1,6 @@
+pub mod Fractions
+pub mod Rounding
+pub mod Interval
+pub mod Sum
+pub mod Product
+pub mod Quotient
