@@ -4,3 +4,5 @@ pub mod Interval
 pub mod Sum
 pub mod Product
 pub mod Quotient
+pub mod Functions
+pub mod Logarithm

@@ -80,6 +80,9 @@ neg-anti (fin false m e) (fin true n d) p q t = absurd (true≢false q)
 neg-anti (fin false m e) (inf false) p q t = tt
 neg-anti (fin false m e) (fin false n d) p q t = let h = order-of-test (fin false m e) (fin false n d) tt tt t in test-of-order (fin true n d) (fin true m e) tt tt (omega arith)
 
+pub signs-apart : (f : Format) (a c b d : ℕ) → T (le (round f true a c) (round f false b d))
+signs-apart f a c b d = neg-below (round f true a c) (round f false b d) (round-signed f true a c) (round-signed f false b d)
+
 pub round-anti : (f : Format) (a b c d : ℕ) → 0 < b → 0 < d → a * d ≤ c * b → T (le (round f true c d) (round f true a b))
 round-anti f a b c d B D h =
     subst₂ (λ (u v : Float). T (le u v)) (sym (round-neg f c d)) (sym (round-neg f a b))

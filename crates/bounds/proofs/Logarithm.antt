@@ -1,0 +1,245 @@
+-- ln of a value in an interval: of x = m·2ᵉ the exponent e lies between those of the ends, and m between theirs where they
+-- have the same exponent, else from 0.75 to 1.5.
+use mathlib.Core.Path.{_≡_, refl, sym, ap, _∙_, subst}
+use mathlib.Core.Bool.{Bool, true, false, not, _&&_, _||_, cond}
+use Prim.Native.Nat.{ℕ, zero, suc, _+_, _*_, _/_, _%_, _^_, _≤_, _<_}
+use native.Mathlib.Nat.{le-trans, le-of-lt, mul-le-mul-right, mul-le-mul, mul-pos, le-of-mul-le-mul-right, pow-succ'}
+use native.Mathlib.Omega.{arith}
+use lib.Dec.{T, leb, leb→le, ltb, ltb→lt, nltb→le, lit≤, lit<}
+use lib.IntN.{ℤ, pos, negsuc}
+use lib.Pow.{pow-pos, pow-add, pow-mono}
+use lib.Ieee.{Float, fin, binary64, up, down, fits, round, ofInt, le, lt}
+use lib.Ieee.Fits.{up-pos, down-pos, and-l, and-r}
+use lib.Ieee.Order.{round-mono}
+use lib.Ieee.Positive.{num, den, positive, den-pos, positive-finite, le→cross, cross→le, between}
+use lib.Ieee.Scale.{finite}
+use Rattle.arithmetic.specs.Checked.{real, _e-_, two⁻, within, _⊕_, _⊖_, _⊗_, _⊘_}
+use Rattle.arithmetic.specs.Ln.{Split, digits, field, mField, mOf, eOf, lnSteps, lnWork, lnOf}
+use Rattle.arithmetic.proofs.Forced.{forced}
+use Rattle.arithmetic.proofs.Literals.{finite-075, finite-15, finite-two⁻60, finite-two60}
+use Rattle.arithmetic.proofs.Split.{split-holds, m-low, m-high}
+use Rattle.arithmetic.proofs.Order.{lt-le}
+use Rattle.arithmetic.proofs.Within.{within-in}
+use Rattle.bounds.proofs.Fractions.{Le, order-of-test, test-of-order, Le-total, Le-trans, between-finite}
+use Rattle.bounds.proofs.Rounding.{round-anti, signs-apart}
+use Rattle.bounds.proofs.Interval.{Interval, unknown, ends, Inside, In, anything, inside, interval, tested, result-in, unsquash-in, point, at, hull, hull-left, hull-right, _▶_, computed, lies, lies-in, upTo, up-to-in, fromOn, from-on-in}
+use Rattle.bounds.proofs.Sum.{_⊞_, _⊟_, _⟨⊕⟩_, _⟨⊖⟩_}
+use Rattle.bounds.proofs.Product.{_⊠_, _⟨⊗⟩_}
+use Rattle.bounds.proofs.Quotient.{_÷_, _⟨⊘⟩_, onlyIf, only-if}
+use Rattle.bounds.proofs.Functions.{is-true}
+
+-- ---- the steps
+unfoldable pub lnStepsOver : Interval → ℕ → Interval → Interval
+lnStepsOver S zero H = H
+lnStepsOver S (suc k) H = point (real 1) ÷ point (real (2 * k + 1)) ⊞ S ⊠ H ▶ lnStepsOver S k
+
+ln-steps : {S H : Interval} {s h : Float} (k : ℕ) → In S s → In H h → In (lnStepsOver S k H) (lnSteps s k h)
+unfolding lnStepsOver lnSteps
+ln-steps zero a b = b
+ln-steps (suc k) a b = simp (computed, forced) (ln-steps k a (at (real 1) ⟨⊘⟩ at (real (2 * k + 1)) ⟨⊕⟩ a ⟨⊗⟩ b))
+
+unfoldable pub lnWorkOver : Interval → Interval → Interval
+lnWorkOver M E =
+    (M ⊟ point (real 1)) ÷ (M ⊞ point (real 1)) ▶ λ Z.
+    Z ⊠ Z ▶ λ S.
+    (point (real 2) ⊠ Z) ⊠ lnStepsOver S 10 (point (real 1) ÷ point (real 21)) ⊞ E ⊠ point (6931471805599453 e- 16)
+
+ln-work : {M E : Interval} {m e : Float} → In M m → In E e → In (lnWorkOver M E) (lnWork m e)
+unfolding lnWorkOver lnWork
+ln-work a b =
+    let one = at (real 1) in
+    let z = (a ⟨⊖⟩ one) ⟨⊘⟩ (a ⟨⊕⟩ one) in
+    simp (computed, forced) ((at (real 2) ⟨⊗⟩ z) ⟨⊗⟩ ln-steps 10 (z ⟨⊗⟩ z) (one ⟨⊘⟩ at (real 21)) ⟨⊕⟩ b ⟨⊗⟩ at (6931471805599453 e- 16))
+
+-- ---- powers of two
+-- 2ᵉ is at most half of 2ᶠ; 2ᵉ ≤ 2ᶠ
+abbrev Halved : ℤ → ℤ → Type 0
+Halved e f = 2 * (up e * down f) ≤ up f * down e
+
+abbrev PowerLe : ℤ → ℤ → Type 0
+PowerLe e f = up e * down f ≤ up f * down e
+
+power-trans : (e f g : ℤ) → PowerLe e f → PowerLe f g → PowerLe e g
+power-trans e f g h k =
+    le-of-mul-le-mul-right {k = up f * down f} (omega (arith, mul-le-mul h k)) (mul-pos (up-pos f) (down-pos f))
+
+doubled : (a b : ℕ) → a < b → 2 * 2 ^ a ≤ 2 ^ b
+doubled a b h = rw pow-succ' at (pow-mono h)
+
+-- where 2ᵃ is not at most half of 2ᵇ, b is not above a
+not-above : (a b : ℕ) → (2 * 2 ^ a ≤ 2 ^ b → ⊥) → b ≤ a
+not-above a b k = go (ltb a b) (ltb→lt a b) (nltb→le a b)
+  where
+    go : (t : Bool) → (T t → a < b) → (T (not t) → b ≤ a) → b ≤ a
+    go true l n = absurd (k (doubled a b (l tt)))
+    go false l n = n tt
+
+two-at-least : (a b : ℕ) → 2 ≤ 2 ^ a * 2 ^ suc b
+two-at-least a b = rw pow-add at (pow-mono {i = 1} {j = a + suc b} (omega arith))
+
+-- so the powers and the exponents stand in one order
+exponents : (e f : ℤ) → (Halved e f → ⊥) → PowerLe f e × T (le (ofInt binary64 f) (ofInt binary64 e))
+unfolding ofInt
+exponents (pos a) (pos b) k =
+    let h = not-above a b (λ g. k (omega arith)) in
+    (omega (arith, pow-mono h), round-mono binary64 b 1 a 1 (lit< tt) (lit< tt) (omega arith))
+exponents (pos a) (negsuc b) k = (omega (arith, mul-pos (pow-pos a) (pow-pos (suc b))), signs-apart binary64 (suc b) 1 a 1)
+exponents (negsuc a) (pos b) k = absurd (k (two-at-least b a))
+exponents (negsuc a) (negsuc b) k =
+    let h = not-above (suc b) (suc a) (λ g. k (omega arith)) in
+    (omega (arith, pow-mono h), round-anti binary64 (suc a) 1 (suc b) 1 (lit< tt) (lit< tt) (omega arith))
+
+-- ---- the parts of two values in order
+strict-cross : (x y : Float) → T (positive x) → T (positive y) → T (lt x y) → num x * den y < num y * den x
+unfolding lt
+strict-cross (fin false m e) (fin false n d) p q h = ltb→lt (m * up e * down d) (n * up d * down e) h
+
+below-is-le : (x y : Float) → T (lt x y) → T (le x y)
+below-is-le x y t = subst T (sym (lt-le x y (is-true (lt x y) t))) tt
+
+module _ {x m : Float} {e : ℤ} (s : Split x m e) where
+  split-positive : T (positive m)
+  unfolding round
+  split-positive = between (75 e- 2) m (15 e- 1) tt tt (s .low) (below-is-le m (15 e- 1) (s .high))
+
+  split-least : 3 * den m ≤ num m * 4
+  unfolding round
+  split-least = le→cross (75 e- 2) m tt split-positive (s .low)
+
+  split-under : num m * 2 < 3 * den m
+  unfolding round
+  split-under = strict-cross m (15 e- 1) split-positive tt (s .high)
+
+module _ {x y m n : Float} {e f : ℤ} (s : Split x m e) (t : Split y n f) (h : num x * den y ≤ num y * den x) where
+  -- m·2ᵉ ≤ n·2ᶠ
+  split-order : num m * den n * (up e * down f) ≤ num n * den m * (up f * down e)
+  split-order =
+      le-of-mul-le-mul-right {k = den x * den y}
+      (omega (arith, ap (λ (z : ℕ). z * (den n * down f * den y)) (s .exact), ap (λ (z : ℕ). z * (den m * down e * den x)) (t .exact), mul-le-mul-right (den m * down e * (den n * down f)) h))
+      (mul-pos (den-pos x) (den-pos y))
+
+  -- 2ᶠ is not at most half of 2ᵉ: of two m in the range none is twice the other
+  not-halved : Halved f e → ⊥
+  not-halved g =
+      let double : 2 * (num m * den n) ≤ num n * den m =
+      le-of-mul-le-mul-right {k = up f * down e} (omega (arith, split-order, mul-le-mul-right (num m * den n) g)) (mul-pos (up-pos f) (down-pos e)) in
+      omega (arith, den-pos m, mul-le-mul-right (den n) (split-least s), mul-le-mul-right (den m) (split-under t))
+
+  exponents-rise : PowerLe e f × T (le (ofInt binary64 e) (ofInt binary64 f))
+  exponents-rise = exponents f e not-halved
+
+  -- where both have the same exponent m ≤ n
+  m-rises : PowerLe f e → T (le m n)
+  m-rises g =
+      cross→le m n (split-positive s) (split-positive t)
+      (le-of-mul-le-mul-right {k = up e * down f} (omega (arith, split-order, mul-le-mul-right (num n * den m) g)) (mul-pos (up-pos e) (down-pos f)))
+
+-- ---- m and e over an interval
+unfoldable pub mantissaBy : Bool → Float → Float → Interval
+mantissaBy true l h = interval (mOf l) (mOf h)
+mantissaBy false l h = interval (75 e- 2) (15 e- 1)
+
+abbrev pub sameExponent : ℤ → ℤ → Bool
+sameExponent e f = leb (up f * down e) (up e * down f)
+
+unfoldable pub mantissaOver : Float → Float → Interval
+mantissaOver l h = mantissaBy (sameExponent (eOf l) (eOf h)) l h
+
+unfoldable pub exponentOver : Float → Float → Interval
+exponentOver l h = interval (ofInt binary64 (eOf l)) (ofInt binary64 (eOf h))
+
+-- wherever x is, m lies from 0.75 to 1.5
+m-anywhere : (x : Float) → In (interval (75 e- 2) (15 e- 1)) (mOf x)
+m-anywhere x = tested (75 e- 2) (15 e- 1) (mOf x) finite-075 finite-15 (m-low x) (below-is-le (mOf x) (15 e- 1) (m-high x))
+
+abbrev InRange : Float → Type 0
+InRange x = T (le (two⁻ 60) x) × T (le x (real (2 ^ 60)))
+
+in-range-positive : (x : Float) → InRange x → T (positive x)
+unfolding round ofInt
+in-range-positive x (l, h) = between (two⁻ 60) x (real (2 ^ 60)) tt tt l h
+
+-- both ends of an interval that lies in the range and is not empty
+ends-in-range : (l h x : Float) → T (lies (two⁻ 60) (ends l h) (real (2 ^ 60))) → Inside l h x → InRange l × InRange h
+unfolding lies
+ends-in-range l h x t a =
+    let u = and-l (le (two⁻ 60) l) (le h (real (2 ^ 60))) t in
+    let v = and-r (le (two⁻ 60) l) (le h (real (2 ^ 60))) t in
+    let low = order-of-test (two⁻ 60) l finite-two⁻60 (a .low) u in
+    let high = order-of-test h (real (2 ^ 60)) (a .high) finite-two60 v in
+    let across = Le-trans l x h (a .above) (a .below) in (
+      (u, test-of-order l (real (2 ^ 60)) (a .low) finite-two60 (Le-trans l h (real (2 ^ 60)) across high)),
+      (test-of-order (two⁻ 60) h finite-two⁻60 (a .high) (Le-trans (two⁻ 60) l h low across), v),
+    )
+
+range-split : (x : Float) → T (fits binary64 x) → InRange x → Split x (mOf x) (eOf x)
+range-split x f (l, h) = split-holds x f (is-true (le (two⁻ 60) x) l) (is-true (le x (real (2 ^ 60))) h)
+
+m-finite : (x : Float) → T (finite (mOf x))
+m-finite x = between-finite (75 e- 2) (mOf x) (15 e- 1) finite-075 finite-15 (m-low x) (below-is-le (mOf x) (15 e- 1) (m-high x))
+
+module _ (l h x : Float) (fl : T (fits binary64 l)) (fh : T (fits binary64 h)) (fx : T (fits binary64 x)) (rl : InRange l) (rh : InRange h) (rx : InRange x) (a : Inside l h x) where
+  low-cross : num l * den x ≤ num x * den l
+  low-cross = le→cross l x (in-range-positive l rl) (in-range-positive x rx) (test-of-order l x (a .low) (a .here) (a .above))
+
+  high-cross : num x * den h ≤ num h * den x
+  high-cross = le→cross x h (in-range-positive x rx) (in-range-positive h rh) (test-of-order x h (a .here) (a .high) (a .below))
+
+  sl : Split l (mOf l) (eOf l)
+  sl = range-split l fl rl
+
+  sh : Split h (mOf h) (eOf h)
+  sh = range-split h fh rh
+
+  sx : Split x (mOf x) (eOf x)
+  sx = range-split x fx rx
+
+  exponent-in : In (exponentOver l h) (ofInt binary64 (eOf x))
+  unfolding exponentOver
+  exponent-in =
+      let low = exponents-rise sl sx low-cross .1 in
+      let high = exponents-rise sx sh high-cross .1 in
+      unsquash-in (ofInt binary64 (eOf x)) (result-in (ofInt binary64 (eOf l)) (ofInt binary64 (eOf h)) (ofInt binary64 (eOf x)) (λ p q. (low, high)))
+
+  mantissa-in : In (mantissaOver l h) (mOf x)
+  unfolding mantissaOver mantissaBy
+  mantissa-in = go (sameExponent (eOf l) (eOf h)) (leb→le (up (eOf h) * down (eOf l)) (up (eOf l) * down (eOf h)))
+    where
+      go : (b : Bool) → (T b → PowerLe (eOf h) (eOf l)) → In (mantissaBy b l h) (mOf x)
+      go true k =
+          let down-to : PowerLe (eOf x) (eOf l) = power-trans (eOf x) (eOf h) (eOf l) (exponents-rise sx sh high-cross .0) (k tt) in
+          let up-to : PowerLe (eOf h) (eOf x) = power-trans (eOf h) (eOf l) (eOf x) (k tt) (exponents-rise sl sx low-cross .0) in
+          tested (mOf l) (mOf h) (mOf x) (m-finite l) (m-finite h) (m-rises sl sx low-cross down-to) (m-rises sx sh high-cross up-to)
+      go false k = m-anywhere x
+
+-- ---- ln
+unfoldable pub lnOver : Interval → Interval
+lnOver unknown = unknown
+lnOver (ends l h) =
+    onlyIf (fits binary64 l && fits binary64 h)
+    (onlyIf (lies (two⁻ 60) (ends l h) (real (2 ^ 60))) (lnWorkOver (mantissaOver l h) (exponentOver l h)))
+
+pub ⟨ln⟩ : {X : Interval} {x : Float} → T (fits binary64 x) → In X x → In (lnOver X) (lnOf x)
+unfolding lnOver lnOf
+⟨ln⟩ f anything = anything
+⟨ln⟩ {x = x} f (inside {l} {h} a) =
+    only-if (fits binary64 l && fits binary64 h) (λ t.
+    only-if (lies (two⁻ 60) (ends l h) (real (2 ^ 60))) (λ u.
+    let ends-tests = ends-in-range l h x u a in
+    let rx = lies-in (two⁻ 60) (real (2 ^ 60)) finite-two⁻60 finite-two60 u (inside a) in
+    rw (within-in (two⁻ 60) (real (2 ^ 60)) x _ (is-true (le (two⁻ 60) x) (rx .0)) (is-true (le x (real (2 ^ 60))) (rx .1)))
+    (ln-work
+    (mantissa-in l h x (and-l (fits binary64 l) (fits binary64 h) t) (and-r (fits binary64 l) (fits binary64 h) t) f (ends-tests .0) (ends-tests .1) rx a)
+    (exponent-in l h x (and-l (fits binary64 l) (fits binary64 h) t) (and-r (fits binary64 l) (fits binary64 h) t) f (ends-tests .0) (ends-tests .1) rx a))))
+
+-- ---- tighter: the hull of ln under c and of ln from c on
+unfoldable pub lnCut : Float → Interval → Interval
+lnCut c X = hull (lnOver (upTo c X)) (lnOver (fromOn c X))
+
+pub ⟨ln-cut⟩ : {X : Interval} {x : Float} (c : Float) → T (finite c) → T (finite x) → T (fits binary64 x) → In X x → In (lnCut c X) (lnOf x)
+unfolding lnCut
+⟨ln-cut⟩ {X} {x} c p q f a = go (le x c) (λ t. t) (λ n. Le-total x c (λ (g : Le x c). n (test-of-order x c q p g)))
+  where
+    go : (b : Bool) → (T b → T (le x c)) → ((T b → ⊥) → Le c x) → In (hull (lnOver (upTo c X)) (lnOver (fromOn c X))) (lnOf x)
+    go true k n = hull-left (lnOver (fromOn c X)) (⟨ln⟩ f (up-to-in c x p (k tt) a))
+    go false k n = hull-right (lnOver (upTo c X)) (⟨ln⟩ f (from-on-in c x p (test-of-order c x p q (n (λ t. t))) a))
