@@ -6,3 +6,5 @@ pub mod Product
 pub mod Quotient
 pub mod Functions
 pub mod Logarithm
+pub mod Rows
+pub mod State

@@ -236,10 +236,11 @@ unfolding lnOver lnOf
 unfoldable pub lnCut : Float → Interval → Interval
 lnCut c X = hull (lnOver (upTo c X)) (lnOver (fromOn c X))
 
-pub ⟨ln-cut⟩ : {X : Interval} {x : Float} (c : Float) → T (finite c) → T (finite x) → T (fits binary64 x) → In X x → In (lnCut c X) (lnOf x)
-unfolding lnCut
-⟨ln-cut⟩ {X} {x} c p q f a = go (le x c) (λ t. t) (λ n. Le-total x c (λ (g : Le x c). n (test-of-order x c q p g)))
+pub ⟨ln-cut⟩ : {X : Interval} {x : Float} (c : Float) → T (finite c) → T (fits binary64 x) → In X x → In (lnCut c X) (lnOf x)
+unfolding lnCut lnOver upTo hull
+⟨ln-cut⟩ c p f anything = anything
+⟨ln-cut⟩ {X} {x} c p f (inside a) = go (le x c) (λ t. t) (λ n. Le-total x c (λ (g : Le x c). n (test-of-order x c (a .here) p g)))
   where
-    go : (b : Bool) → (T b → T (le x c)) → ((T b → ⊥) → Le c x) → In (hull (lnOver (upTo c X)) (lnOver (fromOn c X))) (lnOf x)
-    go true k n = hull-left (lnOver (fromOn c X)) (⟨ln⟩ f (up-to-in c x p (k tt) a))
-    go false k n = hull-right (lnOver (upTo c X)) (⟨ln⟩ f (from-on-in c x p (test-of-order c x p q (n (λ t. t))) a))
+    go : (b : Bool) → (T b → T (le x c)) → ((T b → ⊥) → Le c x) → In (lnCut c X) (lnOf x)
+    go true k n = hull-left (lnOver (fromOn c X)) (⟨ln⟩ f (up-to-in c x p (k tt) (inside a)))
+    go false k n = hull-right (lnOver (upTo c X)) (⟨ln⟩ f (from-on-in c x p (test-of-order c x p (a .here) (n (λ t. t))) (inside a)))

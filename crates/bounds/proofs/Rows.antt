@@ -1,0 +1,188 @@
+-- A term's A, q, r, f, g at δ and τ in intervals, and the six sums over a table, lie in the intervals worked by the same formulas.
+use mathlib.Core.Path.{_≡_, refl, sym, subst}
+use mathlib.Core.List.{List, [], _∷_, map}
+use Prim.Native.Nat.{ℕ, zero, suc, _<_, _≤_}
+use native.Mathlib.Nat.{not-suc-le-zero, le-of-suc-le-suc, le-of-lt, le-refl}
+use lib.ListN.{getD, length}
+use lib.Ieee.{Float, nan}
+use Rattle.arithmetic.specs.Checked.{real, squash, minus, _⊕_, _⊖_, _⊗_, _⊘_}
+use Rattle.arithmetic.specs.Exp.{expOf}
+use Rattle.arithmetic.specs.Ln.{lnOf}
+use Rattle.arithmetic.specs.Power.{_↑_}
+use Rattle.arithmetic.proofs.Forced.{forced}
+use Rattle.arithmetic.proofs.Operations.{⊘-squashed}
+use Rattle.fluids.specs.declared.Term.{Term}
+use Rattle.fluids.specs.declared.Term.the-variants.{Plain, Damped, Bell}
+use Rattle.fluids.specs.Fluid.{Fluid}
+use Rattle.equation.specs.declared.rows.Row.{Row}
+use Rattle.equation.specs.declared.sums.Sums.{Sums}
+use Rattle.equation.specs.Rows.{exponentOf, powerAt, bellAt, xAt, rowAt}
+use Rattle.equation.specs.Sums.{rowFirst, sumsFirst, noSums, addRow, rowOf, sumsTo}
+use Rattle.equation.specs.Kept.{keptOf, sumsAt}
+use Rattle.bounds.proofs.Interval.{Interval, In, point, at, squash-in, _▶_, computed}
+use Rattle.bounds.proofs.Sum.{_⊞_, _⊟_, negated, _⟨⊕⟩_, _⟨⊖⟩_, ⟨minus⟩}
+use Rattle.bounds.proofs.Product.{_⊠_, _⟨⊗⟩_}
+use Rattle.bounds.proofs.Functions.{expOver, ⟨exp⟩, _⇈_, ⟨↑⟩}
+
+-- ---- the powers, the bells' parts and X
+unfoldable pub powerAtOver : Interval → Term → Interval
+powerAtOver Y term = expOver (point (exponentOf term) ⊠ Y)
+
+unfoldable pub bellAtOver : Interval → Term → Interval
+bellAtOver Θ (Plain N t d) = point (real 0)
+bellAtOver Θ (Damped N t d l) = point (real 0)
+bellAtOver Θ (Bell N t d η β γ ε) = Θ ⊟ point γ ▶ λ U. point β ⊠ U ⊠ U
+
+unfoldable pub xAtOver : Interval → Interval → Term → Interval
+xAtOver Δ B (Plain N t d) = point (real 1)
+xAtOver Δ B (Damped N t d l) = expOver (negated (Δ ⇈ l))
+xAtOver Δ B (Bell N t d η β γ ε) = Δ ⊟ point ε ▶ λ U. expOver (negated (point η) ⊠ U ⊠ U ⊟ B)
+
+power-in : {Y : Interval} {y : Float} (term : Term) → In Y y → In (powerAtOver Y term) (powerAt y term)
+unfolding powerAtOver powerAt
+power-in term a = ⟨exp⟩ (at (exponentOf term) ⟨⊗⟩ a)
+
+bell-in : {Θ : Interval} {τ : Float} (term : Term) → In Θ τ → In (bellAtOver Θ term) (bellAt τ term)
+unfolding bellAtOver bellAt
+bell-in (Plain N t d) a = at (real 0)
+bell-in (Damped N t d l) a = at (real 0)
+bell-in (Bell N t d η β γ ε) a = simp computed (at β ⟨⊗⟩ (a ⟨⊖⟩ at γ) ⟨⊗⟩ (a ⟨⊖⟩ at γ))
+
+x-in : {Δ B : Interval} {δ b : Float} (term : Term) → In Δ δ → In B b → In (xAtOver Δ B term) (xAt δ b term)
+unfolding xAtOver xAt
+x-in (Plain N t d) a p = at (real 1)
+x-in (Damped N t d l) a p = ⟨exp⟩ (⟨minus⟩ (⟨↑⟩ l a))
+x-in (Bell N t d η β γ ε) a p = simp computed (⟨exp⟩ (⟨minus⟩ (at η) ⟨⊗⟩ (a ⟨⊖⟩ at ε) ⟨⊗⟩ (a ⟨⊖⟩ at ε) ⟨⊖⟩ p))
+
+-- ---- a row
+pub data RowOver : Type 0 where
+  five : Interval → Interval → Interval → Interval → Interval → RowOver
+
+abbrev pub InRow : RowOver → Row → Type 0
+InRow (five A q r f g) w = In A (w .a) × In q (w .q) × In r (w .r) × In f (w .f) × In g (w .g)
+
+unfoldable pub rowAtOver : Interval → Interval → Interval → Interval → Term → RowOver
+rowAtOver Δ Θ W X (Plain N t d) =
+    five (((point N ⊠ Δ ⇈ d) ⊠ W) ⊠ X) (point (real d)) (point t) (point (real d) ⊠ point (real d) ⊟ point (real d)) (point t ⊠ point t ⊟ point t)
+rowAtOver Δ Θ W X (Damped N t d l) =
+    Δ ⇈ l ▶ λ D.
+    point (real d) ⊟ point (real l) ⊠ D ▶ λ q.
+    five (((point N ⊠ Δ ⇈ d) ⊠ W) ⊠ X) q (point t) ((q ⊠ q ⊟ q) ⊟ (point (real l) ⊠ point (real l)) ⊠ D) (point t ⊠ point t ⊟ point t)
+rowAtOver Δ Θ W X (Bell N t d η β γ ε) =
+    point (real d) ⊟ point (real 2) ⊠ point η ⊠ Δ ⊠ (Δ ⊟ point ε) ▶ λ q.
+    point t ⊟ point (real 2) ⊠ point β ⊠ Θ ⊠ (Θ ⊟ point γ) ▶ λ r.
+    five (((point N ⊠ Δ ⇈ d) ⊠ W) ⊠ X) q r
+    ((q ⊠ q ⊟ point (real d)) ⊟ point (real 2) ⊠ point η ⊠ Δ ⊠ Δ)
+    ((r ⊠ r ⊟ point t) ⊟ point (real 2) ⊠ point β ⊠ Θ ⊠ Θ)
+
+module _ {Δ Θ W X : Interval} {δ τ w x : Float} (inΔ : In Δ δ) (inΘ : In Θ τ) (inW : In W w) (inX : In X x) where
+  a-in : (N : Float) (d : ℕ) → In (((point N ⊠ Δ ⇈ d) ⊠ W) ⊠ X) (((N ⊗ δ ↑ d) ⊗ w) ⊗ x)
+  a-in N d = ((at N ⟨⊗⟩ ⟨↑⟩ d inΔ) ⟨⊗⟩ inW) ⟨⊗⟩ inX
+
+  row-in : (term : Term) → InRow (rowAtOver Δ Θ W X term) (rowAt δ τ w x term)
+  unfolding rowAtOver rowAt
+  row-in (Plain N t d) =
+      let q = at (real d) in
+      simp forced (a-in N d, q, at t, q ⟨⊗⟩ q ⟨⊖⟩ q, at t ⟨⊗⟩ at t ⟨⊖⟩ at t)
+  row-in (Damped N t d l) =
+      let D = ⟨↑⟩ l inΔ in
+      let q = at (real d) ⟨⊖⟩ at (real l) ⟨⊗⟩ D in
+      simp (forced, computed) (a-in N d, q, at t, (q ⟨⊗⟩ q ⟨⊖⟩ q) ⟨⊖⟩ (at (real l) ⟨⊗⟩ at (real l)) ⟨⊗⟩ D, at t ⟨⊗⟩ at t ⟨⊖⟩ at t)
+  row-in (Bell N t d η β γ ε) =
+      let q = at (real d) ⟨⊖⟩ at (real 2) ⟨⊗⟩ at η ⟨⊗⟩ inΔ ⟨⊗⟩ (inΔ ⟨⊖⟩ at ε) in
+      let r = at t ⟨⊖⟩ at (real 2) ⟨⊗⟩ at β ⟨⊗⟩ inΘ ⟨⊗⟩ (inΘ ⟨⊖⟩ at γ) in
+      simp (forced, computed) (
+        a-in N d,
+        q,
+        r,
+        (q ⟨⊗⟩ q ⟨⊖⟩ at (real d)) ⟨⊖⟩ at (real 2) ⟨⊗⟩ at η ⟨⊗⟩ inΔ ⟨⊗⟩ inΔ,
+        (r ⟨⊗⟩ r ⟨⊖⟩ at t) ⟨⊖⟩ at (real 2) ⟨⊗⟩ at β ⟨⊗⟩ inΘ ⟨⊗⟩ inΘ,
+      )
+
+-- ---- the six sums
+pub data SumsOver : Type 0 where
+  six : Interval → Interval → Interval → Interval → Interval → Interval → SumsOver
+
+abbrev pub InSums : SumsOver → Sums → Type 0
+InSums (six S0 S1 S2 T1 T2 ST) s = In S0 (s .s0) × In S1 (s .s1) × In S2 (s .s2) × In T1 (s .t1) × In T2 (s .t2) × In ST (s .st)
+
+abbrev noSumsOver : SumsOver
+noSumsOver = six (point (real 0)) (point (real 0)) (point (real 0)) (point (real 0)) (point (real 0)) (point (real 0))
+
+-- a row, or six sums, computed first
+unfoldable pub rowComputed : {B : Type 0} → RowOver → (RowOver → B) → B
+rowComputed (five a q r f g) k = a ▶ λ a. q ▶ λ q. r ▶ λ r. f ▶ λ f. g ▶ λ g. k (five a q r f g)
+
+unfoldable pub sumsComputed : {B : Type 0} → SumsOver → (SumsOver → B) → B
+sumsComputed (six s0 s1 s2 t1 t2 st) k = s0 ▶ λ s0. s1 ▶ λ s1. s2 ▶ λ s2. t1 ▶ λ t1. t2 ▶ λ t2. st ▶ λ st. k (six s0 s1 s2 t1 t2 st)
+
+row-computed : {B : Type 0} (w : RowOver) (k : RowOver → B) → rowComputed w k ≡ k w
+unfolding rowComputed
+row-computed (five a q r f g) k = simp computed
+
+sums-computed : {B : Type 0} (s : SumsOver) (k : SumsOver → B) → sumsComputed s k ≡ k s
+unfolding sumsComputed
+sums-computed (six s0 s1 s2 t1 t2 st) k = simp computed
+
+row-forced : {B : Type 0} (w : Row) (k : Row → B) → rowFirst w k ≡ k w
+unfolding rowFirst
+row-forced w k = simp forced
+
+sums-forced : {B : Type 0} (s : Sums) (k : Sums → B) → sumsFirst s k ≡ k s
+unfolding sumsFirst
+sums-forced s k = simp forced
+
+unfoldable pub addRowOver : SumsOver → RowOver → SumsOver
+addRowOver (six S0 S1 S2 T1 T2 ST) (five a q r f g) = six (S0 ⊞ a) (S1 ⊞ a ⊠ q) (S2 ⊞ a ⊠ f) (T1 ⊞ a ⊠ r) (T2 ⊞ a ⊠ g) (ST ⊞ a ⊠ q ⊠ r)
+
+add-row-in : (S : SumsOver) (W : RowOver) (s : Sums) (w : Row) → InSums S s → InRow W w → InSums (addRowOver S W) (addRow s w)
+unfolding addRowOver
+add-row-in (six _ _ _ _ _ _) (five _ _ _ _ _) s w (s0, s1, s2, t1, t2, st) (a, q, r, f, g) =
+    (s0 ⟨⊕⟩ a, s1 ⟨⊕⟩ a ⟨⊗⟩ q, s2 ⟨⊕⟩ a ⟨⊗⟩ f, t1 ⟨⊕⟩ a ⟨⊗⟩ r, t2 ⟨⊕⟩ a ⟨⊗⟩ g, st ⟨⊕⟩ a ⟨⊗⟩ q ⟨⊗⟩ r)
+
+-- one term, its power and its bell's part from ln τ and τ
+unfoldable pub termOver : Interval → Interval → Interval → Term → RowOver
+termOver Δ Θ Y term = rowAtOver Δ Θ (powerAtOver Y term) (xAtOver Δ (bellAtOver Θ term) term) term
+
+unfoldable pub sumsToOver : Interval → Interval → Interval → List Term → ℕ → SumsOver
+sumsToOver Δ Θ Y rows zero = noSumsOver
+sumsToOver Δ Θ Y rows (suc i) =
+    sumsComputed (sumsToOver Δ Θ Y rows i) λ S. rowComputed (termOver Δ Θ Y (getD rows i (Plain nan nan 0))) λ W. addRowOver S W
+
+-- what a table's list has at a place inside it
+squashed-at : {A : Type 0} (f : A → Float) (xs : List A) (i : ℕ) (z : A) → i < length xs → getD (map squash (map f xs)) i nan ≡ squash (f (getD xs i z))
+squashed-at f [] i z h = absurd (not-suc-le-zero h)
+squashed-at f (x ∷ xs) zero z h = refl
+squashed-at f (x ∷ xs) (suc i) z h = squashed-at f xs i z (le-of-suc-le-suc h)
+
+abbrev noTerm : Term
+noTerm = Plain nan nan 0
+
+module _ {Δ Θ Y : Interval} {δ τ y : Float} (rows : List Term) (inΔ : In Δ δ) (inΘ : In Θ τ) (inY : In Y y) where
+  this-in : (i : ℕ) → i < length rows → (powers bells : List Float) → powers ≡ map squash (map (powerAt y) rows) → bells ≡ map squash (map (bellAt τ) rows)
+      → InRow (termOver Δ Θ Y (getD rows i noTerm)) (rowOf δ τ rows powers bells i)
+  unfolding termOver rowOf
+  this-in i h powers bells p q =
+      let term = getD rows i noTerm in
+      let inW : In (powerAtOver Y term) (getD powers i nan) =
+      rw (p, squashed-at (powerAt y) rows i noTerm h) (squash-in (power-in term inY)) in
+      let inB : In (bellAtOver Θ term) (getD bells i nan) =
+      rw (q, squashed-at (bellAt τ) rows i noTerm h) (squash-in (bell-in term inΘ)) in
+      row-in inΔ inΘ inW (x-in term inΔ inB) term
+
+  sums-to-in : (i : ℕ) → i ≤ length rows → (powers bells : List Float) → powers ≡ map squash (map (powerAt y) rows) → bells ≡ map squash (map (bellAt τ) rows)
+      → InSums (sumsToOver Δ Θ Y rows i) (sumsTo δ τ rows powers bells i)
+  unfolding sumsToOver sumsTo
+  sums-to-in zero h powers bells p q = let z = at (real 0) in (z, z, z, z, z, z)
+  sums-to-in (suc i) h powers bells p q =
+      simp (sums-computed, row-computed, sums-forced, row-forced)
+      (add-row-in (sumsToOver Δ Θ Y rows i) (termOver Δ Θ Y (getD rows i noTerm)) (sumsTo δ τ rows powers bells i) (rowOf δ τ rows powers bells i)
+      (sums-to-in i (le-of-lt h) powers bells p q) (this-in i h powers bells p q))
+
+-- ---- the sums of a state
+unfoldable pub sumsOver : Fluid → Interval → Interval → Interval → SumsOver
+sumsOver F Δ Θ Y = sumsToOver Δ Θ Y (F .rows) (length (F .rows))
+
+pub sums-in : {Δ Θ Y : Interval} {δ : Float} (F : Fluid) (T : Float) → In Δ δ → In Θ (F .Tc ⊘ T) → In Y (lnOf (F .Tc ⊘ T)) → InSums (sumsOver F Δ Θ Y) (sumsAt F (keptOf F T) δ)
+unfolding sumsOver sumsAt keptOf
+sums-in F T d u y = simp (forced, ⊘-squashed) (sums-to-in (F .rows) (squash-in d) u y (length (F .rows)) (le-refl _) _ _ refl refl)
