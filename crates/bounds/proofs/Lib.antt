@@ -8,3 +8,8 @@ pub mod Functions
 pub mod Logarithm
 pub mod Rows
 pub mod State
+pub mod Entry
+pub mod R245ca
+pub mod Permits
+pub mod NeverTwelve
+pub mod Searches

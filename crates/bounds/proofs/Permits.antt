@@ -1,0 +1,95 @@
+-- What a granted permit says of a state, and that no permit of the inputs denies with 12.
+use mathlib.Core.Path.{_≡_, refl, sym, subst}
+use mathlib.Core.Bool.{Bool, true, false, not, cond, _&&_}
+use mathlib.Core.List.{List, [], _∷_}
+use Prim.Native.Nat.{ℕ}
+use native.Mathlib.Omega.{arith}
+use lib.Dec.{T, eqb}
+use lib.Ieee.{Float, nan, inf, fin, le, lt, eq, ofInt, round}
+use lib.Ieee.Fits.{and-i, and-l, and-r}
+use lib.Ieee.Scale.{finite}
+use Rattle.refusals.specs.declared.Refusal.{Refusal}
+use Rattle.refusals.specs.declared.Refusal.the-variants.{InputNotFinite, TemperatureOutside, DensityOutside, AtZeroDensity, WorkNotFinite}
+use Rattle.refusals.specs.declared.Permit.{Permit}
+use Rattle.refusals.specs.declared.Permit.the-variants.{Granted, Denied}
+use Rattle.refusals.specs.declared.Answer.{Answer}
+use Rattle.refusals.specs.declared.Answer.the-variants.{Number, Refused}
+use Rattle.refusals.specs.Code.{codeOf}
+use Rattle.refusals.specs.Order.{firstOf, permitted}
+use Rattle.refusals.proofs.Needed.{test-passed, rest-granted, permitted-granted}
+use Rattle.arithmetic.specs.Checked.{real, between}
+use Rattle.arithmetic.specs.Calls.{outcomeOf}
+use Rattle.arithmetic.proofs.Answered.{outcome-finite}
+use Rattle.arithmetic.proofs.Order.{le-trans}
+use Rattle.fluids.specs.Fluid.{Fluid}
+use Rattle.fluids.proofs.Sound.{every}
+use Rattle.equation.specs.Calls.{workedDensity, stateTests, statePermit, potentialPermit}
+use Rattle.bounds.proofs.Functions.{is-true}
+
+pub holds : (b : Bool) → b ≡ true → T b
+holds b p = subst T (sym p) tt
+
+-- ---- no permit of the inputs denies with 12
+abbrev otherThan12 : Bool × Refusal → Bool
+otherThan12 test = not (eqb (codeOf (test .1)) 12)
+
+not-12 : (r : Refusal) → T (not (eqb (codeOf r) 12)) → r ≡ WorkNotFinite → ⊥
+not-12 r t e = subst (λ (x : Refusal). T (not (eqb (codeOf x) 12))) e t
+
+pub never-denied : (tests : List (Bool × Refusal)) → T (every otherThan12 tests) → firstOf tests ≡ Denied WorkNotFinite → ⊥
+never-denied [] ok e = let z : _≡_ {A = ℕ} 0 1 = cc in omega arith
+never-denied (x ∷ xs) ok e = go (x .0) (never-denied xs (and-r (otherThan12 x) (every otherThan12 xs) ok)) e
+  where
+    go : (b : Bool) → (firstOf xs ≡ Denied WorkNotFinite → ⊥) → cond b (firstOf xs) (Denied (x .1)) ≡ Denied WorkNotFinite → ⊥
+    go true later e = later e
+    go false later e = not-12 (x .1) (and-l (otherThan12 x) (every otherThan12 xs) ok) (cc)
+
+-- ---- so an answer is 12 only where the permit is granted and the value is not finite
+pub refused-granted : (p : Permit) (v : Float) → (p ≡ Denied WorkNotFinite → ⊥) → permitted p (outcomeOf v) ≡ Refused WorkNotFinite → (p ≡ Granted) × (finite v ≡ false)
+refused-granted Granted nan n e = (refl, refl)
+refused-granted Granted (inf s) n e = (refl, refl)
+refused-granted Granted (fin s m d) n e = let z : _≡_ {A = ℕ} 0 1 = cc in absurd (omega arith)
+refused-granted (Denied r) v n e = let same : r ≡ WorkNotFinite = cc in absurd (n (subst (λ (x : Refusal). Denied x ≡ Denied WorkNotFinite) (sym same) refl))
+
+pub answered : (p : Permit) (v : Float) → p ≡ Granted → T (finite v) → permitted p (outcomeOf v) ≡ Number v
+answered p v g f = rw (permitted-granted p (outcomeOf v) g) (outcome-finite v (is-true (finite v) f))
+
+-- a value that is finite wherever the permit is granted is never 12
+pub never-12 : (p : Permit) (v : Float) → (p ≡ Denied WorkNotFinite → ⊥) → (p ≡ Granted → T (finite v)) → permitted p (outcomeOf v) ≡ Refused WorkNotFinite → ⊥
+never-12 p v n f e = let (g, b) = refused-granted p v n e in subst T b (f g)
+
+-- ---- a permitted state
+module _ (F : Fluid) (t ρ : Float) where
+  pub state-denied : statePermit F t ρ ≡ Denied WorkNotFinite → ⊥
+  unfolding statePermit
+  state-denied = never-denied (stateTests F t ρ) tt
+
+  pub potential-denied : potentialPermit F t ρ ≡ Denied WorkNotFinite → ⊥
+  unfolding potentialPermit
+  potential-denied e = never-denied ((finite t && finite ρ, InputNotFinite) ∷ (between (F .leastT) t (F .greatestT), TemperatureOutside) ∷ (between (real 0) ρ (F .greatestρ), DensityOutside) ∷ (not (eq ρ (real 0)), AtZeroDensity) ∷ []) tt e
+
+  pub state-granted : statePermit F t ρ ≡ Granted → T (between (F .leastT) t (F .greatestT)) × T (between (real 0) ρ (F .greatestρ))
+  unfolding statePermit
+  state-granted p =
+      let last = firstOf ((between (real 0) ρ (F .greatestρ), DensityOutside) ∷ []) in
+      let inner = firstOf ((between (F .leastT) t (F .greatestT), TemperatureOutside) ∷ (between (real 0) ρ (F .greatestρ), DensityOutside) ∷ []) in
+      let q = rest-granted (finite t && finite ρ) inner InputNotFinite p in (
+        holds (between (F .leastT) t (F .greatestT)) (test-passed _ last TemperatureOutside q),
+        holds (between (real 0) ρ (F .greatestρ)) (test-passed _ Granted DensityOutside (rest-granted (between (F .leastT) t (F .greatestT)) last TemperatureOutside q)),
+      )
+
+  -- a density of minus zero is worked as +0, which is in the range too
+  pub worked-in-range : T (between (real 0) ρ (F .greatestρ)) → T (between (real 0) (workedDensity ρ) (F .greatestρ))
+  unfolding workedDensity
+  worked-in-range h = go (eq ρ (real 0))
+    where
+      zero-in : T (le (real 0) (real 0))
+      zero-in = unfold ofInt round le lt eq in tt
+
+      go : (b : Bool) → T (between (real 0) (cond b (real 0) ρ) (F .greatestρ))
+      go true =
+          and-i (le (real 0) (real 0)) (le (real 0) (F .greatestρ)) zero-in
+          (holds (le (real 0) (F .greatestρ))
+          (le-trans (real 0) ρ (F .greatestρ)
+          (is-true (le (real 0) ρ) (and-l (le (real 0) ρ) (le ρ (F .greatestρ)) h)) (is-true (le ρ (F .greatestρ)) (and-r (le (real 0) ρ) (le ρ (F .greatestρ)) h))))
+      go false = h
