@@ -192,14 +192,10 @@ amid-in z anything q m = anything
 amid-in {a = a} {b = b} z (inside p) (inside q) (inl (u, v)) = between-two a b z p q u v
 amid-in {a = a} {b = b} z (inside p) (inside q) (inr (u, v)) = between-two b a z q p u v
 
--- ---- the part from c up, and the part up to c
+-- ---- the part from c up
 unfoldable pub fromOn : Float → Interval → Interval
 fromOn c unknown = unknown
 fromOn c (ends l h) = interval (greater l c) h
-
-unfoldable pub upTo : Float → Interval → Interval
-upTo c unknown = unknown
-upTo c (ends l h) = interval l (lesser h c)
 
 pub from-on-in : {I : Interval} (c x : Float) → T (finite c) → T (le c x) → In I x → In (fromOn c I) x
 unfolding fromOn greater pick
@@ -209,15 +205,6 @@ from-on-in c x f g (inside {l} {h} a) = interval-holds (greater l c) h (a .here)
     go : (t : Bool) → Le (pick t l c) x
     go true = order-of-test c x f (a .here) g
     go false = a .above
-
-pub up-to-in : {I : Interval} (c x : Float) → T (finite c) → T (le x c) → In I x → In (upTo c I) x
-unfolding upTo lesser pick
-up-to-in c x f g anything = anything
-up-to-in c x f g (inside {l} {h} a) = interval-holds l (lesser h c) (a .here) (λ p. a .above) (λ p. go (le c h))
-  where
-    go : (t : Bool) → Le x (pick t h c)
-    go true = order-of-test x c (a .here) f g
-    go false = a .below
 
 -- ---- computed first: f I, for an interval that f uses more than once
 infixl 2 _▶_

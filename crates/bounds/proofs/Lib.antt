@@ -9,7 +9,9 @@ pub mod Logarithm
 pub mod Rows
 pub mod State
 pub mod Entry
+pub mod Top
 pub mod R245ca
 pub mod Permits
 pub mod NeverTwelve
 pub mod Searches
+pub mod Found

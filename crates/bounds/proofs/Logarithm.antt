@@ -3,9 +3,9 @@
 use mathlib.Core.Path.{_≡_, refl, sym, ap, _∙_, subst}
 use mathlib.Core.Bool.{Bool, true, false, not, _&&_, _||_, cond}
 use Prim.Native.Nat.{ℕ, zero, suc, _+_, _*_, _/_, _%_, _^_, _≤_, _<_}
-use native.Mathlib.Nat.{le-trans, le-of-lt, mul-le-mul-right, mul-le-mul, mul-pos, le-of-mul-le-mul-right, pow-succ'}
+use native.Mathlib.Nat.{le-trans, le-of-lt, mul-le-mul-right, mul-le-mul, mul-pos, le-of-mul-le-mul-right, pow-succ', pow-suc}
 use native.Mathlib.Omega.{arith}
-use lib.Dec.{T, leb, leb→le, ltb, ltb→lt, nltb→le, lit≤, lit<}
+use lib.Dec.{T, leb, leb→le, le→leb, ltb, ltb→lt, nltb→le, lit≤, lit<}
 use lib.IntN.{ℤ, pos, negsuc}
 use lib.Pow.{pow-pos, pow-add, pow-mono}
 use lib.Ieee.{Float, fin, binary64, up, down, fits, round, ofInt, le, lt}
@@ -22,7 +22,7 @@ use Rattle.arithmetic.proofs.Order.{lt-le}
 use Rattle.arithmetic.proofs.Within.{within-in}
 use Rattle.bounds.proofs.Fractions.{Le, order-of-test, test-of-order, Le-total, Le-trans, between-finite}
 use Rattle.bounds.proofs.Rounding.{round-anti, signs-apart}
-use Rattle.bounds.proofs.Interval.{Interval, unknown, ends, Inside, In, anything, inside, interval, tested, result-in, unsquash-in, point, at, hull, hull-left, hull-right, _▶_, computed, lies, lies-in, upTo, up-to-in, fromOn, from-on-in}
+use Rattle.bounds.proofs.Interval.{Interval, unknown, ends, Inside, In, anything, inside, interval, tested, result-in, unsquash-in, point, at, hull, hull-left, hull-right, _▶_, computed, lies, lies-in}
 use Rattle.bounds.proofs.Sum.{_⊞_, _⊟_, _⟨⊕⟩_, _⟨⊖⟩_}
 use Rattle.bounds.proofs.Product.{_⊠_, _⟨⊗⟩_}
 use Rattle.bounds.proofs.Quotient.{_÷_, _⟨⊘⟩_, onlyIf, only-if}
@@ -134,19 +134,58 @@ module _ {x y m n : Float} {e f : ℤ} (s : Split x m e) (t : Split y n f) (h : 
       cross→le m n (split-positive s) (split-positive t)
       (le-of-mul-le-mul-right {k = up e * down f} (omega (arith, split-order, mul-le-mul-right (num n * den m) g)) (mul-pos (up-pos e) (down-pos f)))
 
--- ---- m and e over an interval
-unfoldable pub mantissaBy : Bool → Float → Float → Interval
-mantissaBy true l h = interval (mOf l) (mOf h)
-mantissaBy false l h = interval (75 e- 2) (15 e- 1)
-
+-- ---- the pieces of an interval, by the exponents of its ends
 abbrev pub sameExponent : ℤ → ℤ → Bool
 sameExponent e f = leb (up f * down e) (up e * down f)
 
-unfoldable pub mantissaOver : Float → Float → Interval
-mantissaOver l h = mantissaBy (sameExponent (eOf l) (eOf h)) l h
+abbrev pub halvedTest : ℤ → ℤ → Bool
+halvedTest e f = leb (2 * (up e * down f)) (up f * down e)
 
-unfoldable pub exponentOver : Float → Float → Interval
-exponentOver l h = interval (ofInt binary64 (eOf l)) (ofInt binary64 (eOf h))
+-- 2ᶠ is at most twice 2ᵉ: no exponent lies between
+abbrev pub adjacent : ℤ → ℤ → Bool
+adjacent e f = leb (up f * down e) (2 * (up e * down f))
+
+unfoldable pub before : ℤ → ℤ
+before (pos zero) = negsuc zero
+before (pos (suc n)) = pos n
+before (negsuc n) = negsuc (suc n)
+
+before-doubled : (e : ℤ) → 2 * (up (before e) * down e) ≡ up e * down (before e)
+unfolding before
+before-doubled (pos zero) = refl
+before-doubled (pos (suc n)) = rw pow-succ' (omega arith)
+before-doubled (negsuc n) = let e = pow-suc 2 (suc n) in omega arith
+
+-- the lowest exponent, the highest, and those between
+unfoldable pub lnLowest : Float → Interval
+lnLowest l = lnWorkOver (interval (mOf l) (15 e- 1)) (point (ofInt binary64 (eOf l)))
+
+unfoldable pub lnHighest : Float → Interval
+lnHighest h = lnWorkOver (interval (75 e- 2) (mOf h)) (point (ofInt binary64 (eOf h)))
+
+unfoldable pub lnBetween : Float → Float → Interval
+lnBetween l h = lnWorkOver (interval (75 e- 2) (15 e- 1)) (interval (ofInt binary64 (eOf l)) (ofInt binary64 (before (eOf h))))
+
+unfoldable pub lnBy : Bool → Bool → Float → Float → Interval
+lnBy true near l h = lnWorkOver (interval (mOf l) (mOf h)) (interval (ofInt binary64 (eOf l)) (ofInt binary64 (eOf h)))
+lnBy false true l h = hull (lnLowest l) (lnHighest h)
+lnBy false false l h = hull (hull (lnLowest l) (lnHighest h)) (lnBetween l h)
+
+-- 2·2ᵉ ≤ 2ᶠ and 2·(2ᶠ/2) ≤ 2ᵉ cannot both be
+not-twice : (e f : ℤ) → Halved e f → Halved (before f) e → ⊥
+not-twice e f h g =
+    let k : up f * down e ≤ up e * down f =
+    le-of-mul-le-mul-right {k = down (before f)} (omega (arith, mul-le-mul-right (down f) g, ap (λ (z : ℕ). z * down e) (before-doubled f))) (down-pos (before f)) in
+    omega (arith, mul-pos (up-pos e) (down-pos f))
+
+no-room : (e f g : ℤ) → Halved e f → Halved f g → up g * down e ≤ 2 * (up e * down g) → ⊥
+no-room e f g h k n =
+    let a : 4 * (up e * down g) ≤ up g * down e =
+    le-of-mul-le-mul-right {k = up f * down f} (omega (arith, mul-le-mul h k)) (mul-pos (up-pos f) (down-pos f)) in
+    omega (arith, mul-pos (up-pos e) (down-pos g))
+
+not-leb : (a b : ℕ) → (T (leb a b) → ⊥) → a ≤ b → ⊥
+not-leb a b n h = n (le→leb a b h)
 
 -- wherever x is, m lies from 0.75 to 1.5
 m-anywhere : (x : Float) → In (interval (75 e- 2) (15 e- 1)) (mOf x)
@@ -194,30 +233,79 @@ module _ (l h x : Float) (fl : T (fits binary64 l)) (fh : T (fits binary64 h)) (
   sx : Split x (mOf x) (eOf x)
   sx = range-split x fx rx
 
-  exponent-in : In (exponentOver l h) (ofInt binary64 (eOf x))
-  unfolding exponentOver
-  exponent-in =
-      let low = exponents-rise sl sx low-cross .1 in
-      let high = exponents-rise sx sh high-cross .1 in
-      unsquash-in (ofInt binary64 (eOf x)) (result-in (ofInt binary64 (eOf l)) (ofInt binary64 (eOf h)) (ofInt binary64 (eOf x)) (λ p q. (low, high)))
+  e-in : (lo hi : Float) → T (le lo (ofInt binary64 (eOf x))) → T (le (ofInt binary64 (eOf x)) hi) → In (interval lo hi) (ofInt binary64 (eOf x))
+  e-in lo hi low high = unsquash-in (ofInt binary64 (eOf x)) (result-in lo hi (ofInt binary64 (eOf x)) (λ p q. (low, high)))
 
-  mantissa-in : In (mantissaOver l h) (mOf x)
-  unfolding mantissaOver mantissaBy
-  mantissa-in = go (sameExponent (eOf l) (eOf h)) (leb→le (up (eOf h) * down (eOf l)) (up (eOf l) * down (eOf h)))
+  e-above : T (le (ofInt binary64 (eOf l)) (ofInt binary64 (eOf x)))
+  e-above = exponents-rise sl sx low-cross .1
+
+  e-below : T (le (ofInt binary64 (eOf x)) (ofInt binary64 (eOf h)))
+  e-below = exponents-rise sx sh high-cross .1
+
+  m-between : (lo hi : Float) → T (finite lo) → T (finite hi) → T (le lo (mOf x)) → T (le (mOf x) hi) → In (interval lo hi) (mOf x)
+  m-between lo hi p q low high = tested lo hi (mOf x) p q low high
+
+  m-under : T (le (mOf x) (15 e- 1))
+  m-under = below-is-le (mOf x) (15 e- 1) (m-high x)
+
+  abbrev value : Float
+  value = lnWork (mOf x) (ofInt binary64 (eOf x))
+
+  one-exponent : PowerLe (eOf h) (eOf l) → In (lnWorkOver (interval (mOf l) (mOf h)) (interval (ofInt binary64 (eOf l)) (ofInt binary64 (eOf h)))) value
+  one-exponent k =
+      let down-to : PowerLe (eOf x) (eOf l) = power-trans (eOf x) (eOf h) (eOf l) (exponents-rise sx sh high-cross .0) k in
+      let up-to : PowerLe (eOf h) (eOf x) = power-trans (eOf h) (eOf l) (eOf x) k (exponents-rise sl sx low-cross .0) in
+      ln-work (m-between (mOf l) (mOf h) (m-finite l) (m-finite h) (m-rises sl sx low-cross down-to) (m-rises sx sh high-cross up-to))
+      (e-in (ofInt binary64 (eOf l)) (ofInt binary64 (eOf h)) e-above e-below)
+
+  lowest : (Halved (eOf l) (eOf x) → ⊥) → In (lnLowest l) value
+  unfolding lnLowest
+  lowest n =
+      let (power, e) = exponents (eOf l) (eOf x) n in
+      ln-work (m-between (mOf l) (15 e- 1) (m-finite l) finite-15 (m-rises sl sx low-cross power) m-under)
+      (e-in (ofInt binary64 (eOf l)) (ofInt binary64 (eOf l)) e-above e)
+
+  highest : (Halved (eOf x) (eOf h) → ⊥) → In (lnHighest h) value
+  unfolding lnHighest
+  highest n =
+      let (power, e) = exponents (eOf x) (eOf h) n in
+      ln-work (m-between (75 e- 2) (mOf h) finite-075 (m-finite h) (m-low x) (m-rises sx sh high-cross power))
+      (e-in (ofInt binary64 (eOf h)) (ofInt binary64 (eOf h)) e e-below)
+
+  -- 2ˣ ≤ 2ʰ / 2, so x ≤ h − 1
+  between-both : Halved (eOf x) (eOf h) → In (lnBetween l h) value
+  unfolding lnBetween
+  between-both k =
+      let (power, e) = exponents (before (eOf h)) (eOf x) (λ g. not-twice (eOf x) (eOf h) k g) in
+      ln-work (m-anywhere x) (e-in (ofInt binary64 (eOf l)) (ofInt binary64 (before (eOf h))) e-above e)
+
+  piece : {X : Type 0} → ((Halved (eOf l) (eOf x) → ⊥) → X) → ((Halved (eOf x) (eOf h) → ⊥) → X) → (Halved (eOf l) (eOf x) → Halved (eOf x) (eOf h) → X) → X
+  piece {X} low high both =
+      go (halvedTest (eOf l) (eOf x)) (halvedTest (eOf x) (eOf h))
+      (leb→le (2 * (up (eOf l) * down (eOf x))) (up (eOf x) * down (eOf l))) (λ n. not-leb (2 * (up (eOf l) * down (eOf x))) (up (eOf x) * down (eOf l)) n)
+      (leb→le (2 * (up (eOf x) * down (eOf h))) (up (eOf h) * down (eOf x))) (λ n. not-leb (2 * (up (eOf x) * down (eOf h))) (up (eOf h) * down (eOf x)) n)
     where
-      go : (b : Bool) → (T b → PowerLe (eOf h) (eOf l)) → In (mantissaBy b l h) (mOf x)
-      go true k =
-          let down-to : PowerLe (eOf x) (eOf l) = power-trans (eOf x) (eOf h) (eOf l) (exponents-rise sx sh high-cross .0) (k tt) in
-          let up-to : PowerLe (eOf h) (eOf x) = power-trans (eOf h) (eOf l) (eOf x) (k tt) (exponents-rise sl sx low-cross .0) in
-          tested (mOf l) (mOf h) (mOf x) (m-finite l) (m-finite h) (m-rises sl sx low-cross down-to) (m-rises sx sh high-cross up-to)
-      go false k = m-anywhere x
+      go : (a b : Bool) → (T a → Halved (eOf l) (eOf x)) → ((T a → ⊥) → Halved (eOf l) (eOf x) → ⊥) → (T b → Halved (eOf x) (eOf h)) → ((T b → ⊥) → Halved (eOf x) (eOf h) → ⊥) → X
+      go false b p p' q q' = low (p' (λ z. z))
+      go true false p p' q q' = high (q' (λ z. z))
+      go true true p p' q q' = both (p tt) (q tt)
+
+  ln-by : (same near : Bool) → (T same → PowerLe (eOf h) (eOf l)) → (T near → up (eOf h) * down (eOf l) ≤ 2 * (up (eOf l) * down (eOf h))) → In (lnBy same near l h) value
+  unfolding lnBy
+  ln-by true near s n = one-exponent (s tt)
+  ln-by false true s n =
+      piece (λ k. hull-left (lnHighest h) (lowest k)) (λ k. hull-right (lnLowest l) (highest k))
+      (λ a b. absurd (no-room (eOf l) (eOf x) (eOf h) a b (n tt)))
+  ln-by false false s n =
+      piece (λ k. hull-left (lnBetween l h) (hull-left (lnHighest h) (lowest k))) (λ k. hull-left (lnBetween l h) (hull-right (lnLowest l) (highest k)))
+      (λ a b. hull-right (hull (lnLowest l) (lnHighest h)) (between-both b))
 
 -- ---- ln
 unfoldable pub lnOver : Interval → Interval
 lnOver unknown = unknown
 lnOver (ends l h) =
     onlyIf (fits binary64 l && fits binary64 h)
-    (onlyIf (lies (two⁻ 60) (ends l h) (real (2 ^ 60))) (lnWorkOver (mantissaOver l h) (exponentOver l h)))
+    (onlyIf (lies (two⁻ 60) (ends l h) (real (2 ^ 60))) (lnBy (sameExponent (eOf l) (eOf h)) (adjacent (eOf l) (eOf h)) l h))
 
 pub ⟨ln⟩ : {X : Interval} {x : Float} → T (fits binary64 x) → In X x → In (lnOver X) (lnOf x)
 unfolding lnOver lnOf
@@ -225,22 +313,9 @@ unfolding lnOver lnOf
 ⟨ln⟩ {x = x} f (inside {l} {h} a) =
     only-if (fits binary64 l && fits binary64 h) (λ t.
     only-if (lies (two⁻ 60) (ends l h) (real (2 ^ 60))) (λ u.
-    let ends-tests = ends-in-range l h x u a in
+    let (rl, rh) = ends-in-range l h x u a in
     let rx = lies-in (two⁻ 60) (real (2 ^ 60)) finite-two⁻60 finite-two60 u (inside a) in
     rw (within-in (two⁻ 60) (real (2 ^ 60)) x _ (is-true (le (two⁻ 60) x) (rx .0)) (is-true (le x (real (2 ^ 60))) (rx .1)))
-    (ln-work
-    (mantissa-in l h x (and-l (fits binary64 l) (fits binary64 h) t) (and-r (fits binary64 l) (fits binary64 h) t) f (ends-tests .0) (ends-tests .1) rx a)
-    (exponent-in l h x (and-l (fits binary64 l) (fits binary64 h) t) (and-r (fits binary64 l) (fits binary64 h) t) f (ends-tests .0) (ends-tests .1) rx a))))
-
--- ---- tighter: the hull of ln under c and of ln from c on
-unfoldable pub lnCut : Float → Interval → Interval
-lnCut c X = hull (lnOver (upTo c X)) (lnOver (fromOn c X))
-
-pub ⟨ln-cut⟩ : {X : Interval} {x : Float} (c : Float) → T (finite c) → T (fits binary64 x) → In X x → In (lnCut c X) (lnOf x)
-unfolding lnCut lnOver upTo hull
-⟨ln-cut⟩ c p f anything = anything
-⟨ln-cut⟩ {X} {x} c p f (inside a) = go (le x c) (λ t. t) (λ n. Le-total x c (λ (g : Le x c). n (test-of-order x c (a .here) p g)))
-  where
-    go : (b : Bool) → (T b → T (le x c)) → ((T b → ⊥) → Le c x) → In (lnCut c X) (lnOf x)
-    go true k n = hull-left (lnOver (fromOn c X)) (⟨ln⟩ f (up-to-in c x p (k tt) (inside a)))
-    go false k n = hull-right (lnOver (upTo c X)) (⟨ln⟩ f (from-on-in c x p (test-of-order c x p (a .here) (n (λ t. t))) (inside a)))
+    (ln-by l h x (and-l (fits binary64 l) (fits binary64 h) t) (and-r (fits binary64 l) (fits binary64 h) t) f rl rh rx a
+    (sameExponent (eOf l) (eOf h)) (adjacent (eOf l) (eOf h))
+    (leb→le (up (eOf h) * down (eOf l)) (up (eOf l) * down (eOf h))) (leb→le (up (eOf h) * down (eOf l)) (2 * (up (eOf l) * down (eOf h)))))))

@@ -1,19 +1,23 @@
--- R-245ca passes the test of an entry.
+-- R-245ca passes the two computed tests of an entry: no value in its range is anything but finite, and at its top the pressure is above
+-- every permitted one.
+use mathlib.Core.List.{List, [], _∷_}
 use lib.Dec.{T}
-use lib.Ieee.{ofInt, round, le, lt, eq, neg, add, sub, mul, div, fits, toBits, ofBits}
-use Rattle.arithmetic.specs.Checked.{minus}
+use lib.Ieee.{Float, ofInt, round, le, lt, eq, neg, add, sub, mul, div, fits, toBits, ofBits}
+use Rattle.arithmetic.specs.Checked.{real, minus}
 use Rattle.arithmetic.specs.Ln.{mOf, eOf}
 use Rattle.fluids.specs.R245ca.{r245ca}
-use Rattle.bounds.proofs.Interval.{interval, pick, lesser, greater, hull, across, fromOn, upTo, _▶_, lies}
+use Rattle.bounds.proofs.Interval.{interval, pick, lesser, greater, hull, across, fromOn, _▶_, lies}
 use Rattle.bounds.proofs.Sum.{_⊞_, _⊟_, negated}
 use Rattle.bounds.proofs.Product.{_⊠_, productBy, fourProducts}
 use Rattle.bounds.proofs.Quotient.{_÷_, quotientBy, fourQuotients, onlyIf}
 use Rattle.bounds.proofs.Functions.{expOver, expStepsOver, squaredOver, _⇈_}
-use Rattle.bounds.proofs.Logarithm.{lnOver, lnCut, lnWorkOver, lnStepsOver, mantissaBy, mantissaOver, exponentOver}
-use Rattle.bounds.proofs.Rows.{powerAtOver, bellAtOver, xAtOver, rowAtOver, rowComputed, sumsComputed, addRowOver, termOver, sumsToOver, sumsOver}
+use Rattle.bounds.proofs.Logarithm.{lnOver, lnBy, lnLowest, lnHighest, lnBetween, before, lnWorkOver, lnStepsOver}
+use Rattle.bounds.proofs.Rows.{powerAtOver, bellAtOver, xAtOver, rowAtOver, rowComputed, sumsComputed, addRowOver, termOver, sumsToOver, sumsOver, s1ToOver, s1Over}
 use Rattle.bounds.proofs.State.{part0Over, part1Over, part2Over, totalToOver, I0Over, I1Over, I2Over, finished, stateOver}
 use Rattle.bounds.proofs.Entry.{passes}
+use Rattle.bounds.proofs.Top.{pressureOver, topRises}
 
 pub r245ca-passes : T (passes r245ca)
-unfolding r245ca interval pick lesser greater hull across fromOn upTo _▶_ lies _⊞_ _⊟_ negated _⊠_ productBy fourProducts _÷_ quotientBy fourQuotients onlyIf expOver expStepsOver squaredOver _⇈_ lnOver lnCut lnWorkOver lnStepsOver mantissaBy mantissaOver exponentOver powerAtOver bellAtOver xAtOver rowAtOver rowComputed sumsComputed addRowOver termOver sumsToOver sumsOver part0Over part1Over part2Over totalToOver I0Over I1Over I2Over finished stateOver mOf eOf minus fits toBits ofBits ofInt round le lt eq neg add sub mul div
+unfolding r245ca interval pick lesser greater hull across fromOn _▶_ lies _⊞_ _⊟_ negated _⊠_ productBy fourProducts _÷_ quotientBy fourQuotients onlyIf expOver expStepsOver squaredOver _⇈_ lnOver lnBy lnLowest lnHighest lnBetween before lnWorkOver lnStepsOver powerAtOver bellAtOver xAtOver rowAtOver rowComputed sumsComputed addRowOver termOver sumsToOver sumsOver part0Over part1Over part2Over totalToOver I0Over I1Over I2Over finished stateOver mOf eOf minus fits toBits ofBits ofInt round le lt eq neg add sub mul div
 r245ca-passes = tt
+

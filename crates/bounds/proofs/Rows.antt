@@ -179,6 +179,25 @@ module _ {Δ Θ Y : Interval} {δ τ y : Float} (rows : List Term) (inΔ : In Δ
       (add-row-in (sumsToOver Δ Θ Y rows i) (termOver Δ Θ Y (getD rows i noTerm)) (sumsTo δ τ rows powers bells i) (rowOf δ τ rows powers bells i)
       (sums-to-in i (le-of-lt h) powers bells p q) (this-in i h powers bells p q))
 
+-- ---- S1 alone, for the pressure
+abbrev timesQ : RowOver → Interval
+timesQ (five a q r f g) = a ⊠ q
+
+times-q-in : (W : RowOver) (w : Row) → InRow W w → In (timesQ W) (w .a ⊗ w .q)
+times-q-in (five _ _ _ _ _) w (a, q, r, f, g) = a ⟨⊗⟩ q
+
+unfoldable pub s1ToOver : Interval → Interval → Interval → List Term → ℕ → Interval
+s1ToOver Δ Θ Y rows zero = point (real 0)
+s1ToOver Δ Θ Y rows (suc i) = s1ToOver Δ Θ Y rows i ▶ λ S. S ⊞ timesQ (termOver Δ Θ Y (getD rows i noTerm))
+
+s1-to-in : {Δ Θ Y : Interval} {δ τ y : Float} (rows : List Term) → In Δ δ → In Θ τ → In Y y → (i : ℕ) → i ≤ length rows → (powers bells : List Float)
+    → powers ≡ map squash (map (powerAt y) rows) → bells ≡ map squash (map (bellAt τ) rows) → In (s1ToOver Δ Θ Y rows i) (sumsTo δ τ rows powers bells i .s1)
+unfolding s1ToOver sumsTo
+s1-to-in rows d u y zero h powers bells p q = at (real 0)
+s1-to-in rows d u y (suc i) h powers bells p q =
+    simp (computed, sums-forced, row-forced)
+    (s1-to-in rows d u y i (le-of-lt h) powers bells p q ⟨⊕⟩ times-q-in (termOver _ _ _ (getD rows i noTerm)) (rowOf _ _ rows powers bells i) (this-in rows d u y i h powers bells p q))
+
 -- ---- the sums of a state
 unfoldable pub sumsOver : Fluid → Interval → Interval → Interval → SumsOver
 sumsOver F Δ Θ Y = sumsToOver Δ Θ Y (F .rows) (length (F .rows))
@@ -186,3 +205,10 @@ sumsOver F Δ Θ Y = sumsToOver Δ Θ Y (F .rows) (length (F .rows))
 pub sums-in : {Δ Θ Y : Interval} {δ : Float} (F : Fluid) (T : Float) → In Δ δ → In Θ (F .Tc ⊘ T) → In Y (lnOf (F .Tc ⊘ T)) → InSums (sumsOver F Δ Θ Y) (sumsAt F (keptOf F T) δ)
 unfolding sumsOver sumsAt keptOf
 sums-in F T d u y = simp (forced, ⊘-squashed) (sums-to-in (F .rows) (squash-in d) u y (length (F .rows)) (le-refl _) _ _ refl refl)
+
+unfoldable pub s1Over : Fluid → Interval → Interval → Interval → Interval
+s1Over F Δ Θ Y = s1ToOver Δ Θ Y (F .rows) (length (F .rows))
+
+pub s1-in : {Δ Θ Y : Interval} {δ : Float} (F : Fluid) (T : Float) → In Δ δ → In Θ (F .Tc ⊘ T) → In Y (lnOf (F .Tc ⊘ T)) → In (s1Over F Δ Θ Y) (sumsAt F (keptOf F T) δ .s1)
+unfolding s1Over sumsAt keptOf
+s1-in F T d u y = simp (forced, ⊘-squashed) (s1-to-in (F .rows) (squash-in d) u y (length (F .rows)) (le-refl _) _ _ refl refl)

@@ -13,7 +13,7 @@ use Rattle.arithmetic.specs.Checked.{real, _e-_, two⁻, squash, minus, _⊕_, 
 use Rattle.arithmetic.specs.Exp.{expOf}
 use Rattle.arithmetic.specs.Ln.{lnOf}
 use Rattle.arithmetic.proofs.Forced.{forced}
-use Rattle.arithmetic.proofs.Literals.{finite-15, finite-two⁻60}
+use Rattle.arithmetic.proofs.Literals.{finite-two⁻60}
 use Rattle.fluids.specs.declared.Pair.{Pair}
 use Rattle.fluids.specs.Fluid.{Fluid}
 use Rattle.equation.specs.declared.sums.Sums.{Sums}
@@ -25,7 +25,7 @@ use Rattle.bounds.proofs.Sum.{_⊞_, _⊟_, negated, _⟨⊕⟩_, _⟨�
 use Rattle.bounds.proofs.Product.{_⊠_, _⟨⊗⟩_}
 use Rattle.bounds.proofs.Quotient.{_÷_, _⟨⊘⟩_}
 use Rattle.bounds.proofs.Functions.{expOver, ⟨exp⟩}
-use Rattle.bounds.proofs.Logarithm.{lnOver, ⟨ln⟩, lnCut, ⟨ln-cut⟩}
+use Rattle.bounds.proofs.Logarithm.{lnOver, ⟨ln⟩}
 use Rattle.bounds.proofs.Rows.{SumsOver, six, InSums, sumsOver, sums-in}
 
 -- ---- what an operation gives is a binary64
@@ -132,7 +132,7 @@ finished F Θ Ρ (six S0 S1 S2 T1 T2 ST) J0 J1 J2 =
 unfoldable pub stateOver : Fluid → Interval → Interval → State
 stateOver F Θ Ρ =
     point (F .Tc) ÷ Θ ▶ λ U.
-    lnCut (15 e- 1) U ▶ λ Y.
+    lnOver U ▶ λ Y.
     Ρ ÷ point (F .ρc) ▶ λ Δ.
     I0Over F Θ U Y (fromOn (two⁻ 60) Δ) ▶ λ J0.
     I1Over F Θ U ▶ λ J1.
@@ -144,7 +144,7 @@ module _ (F : Fluid) (t r : Float) where
   unfolding keptOf
   kept-temperature = simp forced
 
-  pressure-is : pressureValue F t r ≡ ((r ⊗ real 1000) ⊗ (F .R ⊗ t)) ⊗ (real 1 ⊕ sums F t r .s1)
+  pub pressure-is : pressureValue F t r ≡ ((r ⊗ real 1000) ⊗ (F .R ⊗ t)) ⊗ (real 1 ⊕ sums F t r .s1)
   unfolding pressureValue pressureAt sums δ
   pressure-is = simp kept-temperature
 
@@ -182,10 +182,10 @@ module _ (F : Fluid) (t r : Float) where
     unfolding stateOver
     state-in =
         let u = at (F .Tc) ⟨⊘⟩ a in
-        let y = ⟨ln-cut⟩ (15 e- 1) finite-15 (quotient-fits (F .Tc) t) u in
+        let y = ⟨ln⟩ (quotient-fits (F .Tc) t) u in
         let d = b ⟨⊘⟩ at (F .ρc) in
         simp computed
-        (finished-in (sumsOver F (Ρ ÷ point (F .ρc)) (point (F .Tc) ÷ Θ) (lnCut (15 e- 1) (point (F .Tc) ÷ Θ)))
+        (finished-in (sumsOver F (Ρ ÷ point (F .ρc)) (point (F .Tc) ÷ Θ) (lnOver (point (F .Tc) ÷ Θ)))
         (unfold sums δ in sums-in F t d u y)
         (λ h. unfold i0 τ δ in I0-in F t a u y (quotient-fits r (F .ρc)) (from-on-in (two⁻ 60) (r ⊘ F .ρc) finite-two⁻60 h d))
         (unfold i1 τ in I1-in F t a u)
