@@ -1,8 +1,7 @@
 -- R-245ca passes the two computed tests of an entry: no value in its range is anything but finite, and at its top the pressure is above
 -- every permitted one.
-use mathlib.Core.List.{List, [], _∷_}
 use lib.Dec.{T}
-use lib.Ieee.{Float, ofInt, round, le, lt, eq, neg, add, sub, mul, div, fits, toBits, ofBits}
+use lib.Ieee.{ofInt, round, le, lt, eq, neg, add, sub, mul, div, fits, toBits, ofBits}
 use Rattle.arithmetic.specs.Checked.{real, minus}
 use Rattle.arithmetic.specs.Ln.{mOf, eOf}
 use Rattle.fluids.specs.R245ca.{r245ca}
@@ -15,9 +14,38 @@ use Rattle.bounds.proofs.Logarithm.{lnOver, lnBy, lnLowest, lnHighest, 
 use Rattle.bounds.proofs.Rows.{powerAtOver, bellAtOver, xAtOver, rowAtOver, rowComputed, sumsComputed, addRowOver, termOver, sumsToOver, sumsOver, s1ToOver, s1Over}
 use Rattle.bounds.proofs.State.{part0Over, part1Over, part2Over, totalToOver, I0Over, I1Over, I2Over, finished, stateOver}
 use Rattle.bounds.proofs.Entry.{passes}
-use Rattle.bounds.proofs.Top.{pressureOver, topRises}
+use Rattle.bounds.proofs.Top.{pressureOver, Rises, slice, slice-rises, joined}
 
 pub r245ca-passes : T (passes r245ca)
 unfolding r245ca interval pick lesser greater hull across fromOn _▶_ lies _⊞_ _⊟_ negated _⊠_ productBy fourProducts _÷_ quotientBy fourQuotients onlyIf expOver expStepsOver squaredOver _⇈_ lnOver lnBy lnLowest lnHighest lnBetween before lnWorkOver lnStepsOver powerAtOver bellAtOver xAtOver rowAtOver rowComputed sumsComputed addRowOver termOver sumsToOver sumsOver part0Over part1Over part2Over totalToOver I0Over I1Over I2Over finished stateOver mOf eOf minus fits toBits ofBits ofInt round le lt eq neg add sub mul div
 r245ca-passes = tt
 
+-- five slices of temperature
+from-196 : T (slice r245ca (real 196) (real 213))
+unfolding r245ca interval pick lesser greater hull across fromOn _▶_ lies _⊞_ _⊟_ negated _⊠_ productBy fourProducts _÷_ quotientBy fourQuotients onlyIf expOver expStepsOver squaredOver _⇈_ lnOver lnBy lnLowest lnHighest lnBetween before lnWorkOver lnStepsOver powerAtOver bellAtOver xAtOver rowAtOver termOver s1ToOver s1Over pressureOver mOf eOf minus fits toBits ofBits ofInt round le lt eq neg add sub mul div
+from-196 = tt
+
+from-213 : T (slice r245ca (real 213) (real 240))
+unfolding r245ca interval pick lesser greater hull across fromOn _▶_ lies _⊞_ _⊟_ negated _⊠_ productBy fourProducts _÷_ quotientBy fourQuotients onlyIf expOver expStepsOver squaredOver _⇈_ lnOver lnBy lnLowest lnHighest lnBetween before lnWorkOver lnStepsOver powerAtOver bellAtOver xAtOver rowAtOver termOver s1ToOver s1Over pressureOver mOf eOf minus fits toBits ofBits ofInt round le lt eq neg add sub mul div
+from-213 = tt
+
+from-240 : T (slice r245ca (real 240) (real 283))
+unfolding r245ca interval pick lesser greater hull across fromOn _▶_ lies _⊞_ _⊟_ negated _⊠_ productBy fourProducts _÷_ quotientBy fourQuotients onlyIf expOver expStepsOver squaredOver _⇈_ lnOver lnBy lnLowest lnHighest lnBetween before lnWorkOver lnStepsOver powerAtOver bellAtOver xAtOver rowAtOver termOver s1ToOver s1Over pressureOver mOf eOf minus fits toBits ofBits ofInt round le lt eq neg add sub mul div
+from-240 = tt
+
+from-283 : T (slice r245ca (real 283) (real 345))
+unfolding r245ca interval pick lesser greater hull across fromOn _▶_ lies _⊞_ _⊟_ negated _⊠_ productBy fourProducts _÷_ quotientBy fourQuotients onlyIf expOver expStepsOver squaredOver _⇈_ lnOver lnBy lnLowest lnHighest lnBetween before lnWorkOver lnStepsOver powerAtOver bellAtOver xAtOver rowAtOver termOver s1ToOver s1Over pressureOver mOf eOf minus fits toBits ofBits ofInt round le lt eq neg add sub mul div
+from-283 = tt
+
+from-345 : T (slice r245ca (real 345) (real 450))
+unfolding r245ca interval pick lesser greater hull across fromOn _▶_ lies _⊞_ _⊟_ negated _⊠_ productBy fourProducts _÷_ quotientBy fourQuotients onlyIf expOver expStepsOver squaredOver _⇈_ lnOver lnBy lnLowest lnHighest lnBetween before lnWorkOver lnStepsOver powerAtOver bellAtOver xAtOver rowAtOver termOver s1ToOver s1Over pressureOver mOf eOf minus fits toBits ofBits ofInt round le lt eq neg add sub mul div
+from-345 = tt
+
+pub r245ca-rises : Rises r245ca (r245ca .leastT) (r245ca .greatestT)
+unfolding r245ca ofInt round
+r245ca-rises =
+    joined r245ca (real 196) (real 213) (real 450) tt (slice-rises r245ca (real 196) (real 213) from-196)
+    (joined r245ca (real 213) (real 240) (real 450) tt (slice-rises r245ca (real 213) (real 240) from-213)
+    (joined r245ca (real 240) (real 283) (real 450) tt (slice-rises r245ca (real 240) (real 283) from-240)
+    (joined r245ca (real 283) (real 345) (real 450) tt (slice-rises r245ca (real 283) (real 345) from-283)
+    (slice-rises r245ca (real 345) (real 450) from-345))))

@@ -2,7 +2,6 @@
 -- over slices of temperature, for any fluid's entry.
 use mathlib.Core.Path.{_≡_, refl, subst}
 use mathlib.Core.Bool.{Bool, true, false, _&&_}
-use mathlib.Core.List.{List, [], _∷_}
 use lib.Dec.{T}
 use lib.Ieee.{Float, le, lt}
 use lib.Ieee.Fits.{and-l, and-r}
@@ -46,33 +45,24 @@ above-in c t anything = absurd t
 above-in {x = x} c t (inside {l} {h} a) = lt-le-trans c l x (is-true (lt c l) t) (is-true (le l x) (test-of-order l x (a .low) (a .here) (a .above)))
 
 -- ---- slices of temperature
-abbrev slice : Fluid → Float → Float → Bool
+-- from lo to hi the pressure at the top is above every permitted one
+abbrev pub Rises : Fluid → Float → Float → Type 0
+Rises F lo hi = (t : Float) → T (finite t) → T (le lo t) → T (le t hi) → lt (F .greatestP) (pressureValue F t (F .greatestρ)) ≡ true
+
+-- the computed test of one slice
+abbrev pub slice : Fluid → Float → Float → Bool
 slice F lo hi = (finite lo && finite hi) && above (F .greatestP) (pressureOver F (interval lo hi) (point (F .greatestρ)))
 
-slice-holds : (F : Fluid) (lo hi t : Float) → T (slice F lo hi) → T (le lo t) → T (le t hi) → lt (F .greatestP) (pressureValue F t (F .greatestρ)) ≡ true
-slice-holds F lo hi t s l h =
-    let f = and-l (finite lo && finite hi) (above (F .greatestP) (pressureOver F (interval lo hi) (point (F .greatestρ)))) s in
+pub slice-rises : (F : Fluid) (lo hi : Float) → T (slice F lo hi) → Rises F lo hi
+slice-rises F lo hi s t f l h =
+    let e = and-l (finite lo && finite hi) (above (F .greatestP) (pressureOver F (interval lo hi) (point (F .greatestρ)))) s in
     above-in (F .greatestP) (and-r (finite lo && finite hi) (above (F .greatestP) (pressureOver F (interval lo hi) (point (F .greatestρ)))) s)
-    (pressure-in F t (F .greatestρ) (tested lo hi t (and-l (finite lo) (finite hi) f) (and-r (finite lo) (finite hi) f) l h) (at (F .greatestρ)))
+    (pressure-in F t (F .greatestρ) (tested lo hi t (and-l (finite lo) (finite hi) e) (and-r (finite lo) (finite hi) e) l h) (at (F .greatestρ)))
 
--- the test from lo to hi, cut into slices
-abbrev pub topRises : Fluid → Float → List Float → Float → Bool
-topRises F lo [] hi = slice F lo hi
-topRises F lo (cut ∷ cuts) hi = slice F lo cut && topRises F cut cuts hi
-
-cut-either : (t c : Float) → T (finite t) → T (finite c) → {X : Type 0} → (T (le t c) → X) → (T (le c t) → X) → X
-cut-either t c p q {X} low high = go (le t c) (λ z. z) (λ n. test-of-order c t q p (Le-total t c (λ (g : Le t c). n (test-of-order t c p q g))))
+-- two slices that meet
+pub joined : (F : Fluid) (lo c hi : Float) → T (finite c) → Rises F lo c → Rises F c hi → Rises F lo hi
+joined F lo c hi q lower upper t f l h = go (le t c) (λ z. z) (λ n. test-of-order c t q f (Le-total t c (λ (g : Le t c). n (test-of-order t c f q g))))
   where
-    go : (b : Bool) → (T b → T (le t c)) → ((T b → ⊥) → T (le c t)) → X
-    go true k n = low (k tt)
-    go false k n = high (n (λ z. z))
-
-pub top-above : (F : Fluid) (lo : Float) (cuts : List Float) (hi t : Float) → T (topRises F lo cuts hi) → T (finite t) → T (le lo t) → T (le t hi)
-    → lt (F .greatestP) (pressureValue F t (F .greatestρ)) ≡ true
-top-above F lo [] hi t s f l h = slice-holds F lo hi t s l h
-top-above F lo (cut ∷ cuts) hi t s f l h =
-    let here = and-l (slice F lo cut) (topRises F cut cuts hi) s in
-    let ends-finite = and-l (finite lo && finite cut) (above (F .greatestP) (pressureOver F (interval lo cut) (point (F .greatestρ)))) here in
-    cut-either t cut f (and-r (finite lo) (finite cut) ends-finite)
-    (λ low. slice-holds F lo cut t here l low)
-    (λ high. top-above F cut cuts hi t (and-r (slice F lo cut) (topRises F cut cuts hi) s) f high h)
+    go : (b : Bool) → (T b → T (le t c)) → ((T b → ⊥) → T (le c t)) → lt (F .greatestP) (pressureValue F t (F .greatestρ)) ≡ true
+    go true k n = lower t f l (k tt)
+    go false k n = upper t f (n (λ z. z)) h
