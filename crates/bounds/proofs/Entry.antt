@@ -9,6 +9,7 @@ use lib.Ieee.Scale.{finite}
 use Rattle.arithmetic.specs.Checked.{real, two⁻, between}
 use Rattle.fluids.specs.Fluid.{Fluid}
 use Rattle.equation.specs.Values.{δ, «V», K, Q, pressureValue, energyValue, enthalpyValue, isochoricValue, entropyValue, gibbsValue, helmholtzValue}
+use Rattle.bounds.proofs.Fractions.{between-finite}
 use Rattle.bounds.proofs.Interval.{Interval, ends, In, interval, tested, point, at, known, in-known}
 use Rattle.bounds.proofs.Quotient.{_÷_, _⟨⊘⟩_}
 use Rattle.bounds.proofs.State.{State, state, stateOver, InState, state-in}
@@ -82,6 +83,11 @@ module _ (F : Fluid) (ok : T (passes F)) (t r : Float) where
   pub temperature-in : T (between (F .leastT) t (F .greatestT)) → In (temperatures F) t
   temperature-in h =
       tested (F .leastT) (F .greatestT) t (ends-finite .0) (ends-finite .1)
+      (and-l (le (F .leastT) t) (le t (F .greatestT)) h) (and-r (le (F .leastT) t) (le t (F .greatestT)) h)
+
+  pub temperature-finite : T (between (F .leastT) t (F .greatestT)) → T (finite t)
+  temperature-finite h =
+      between-finite (F .leastT) t (F .greatestT) (ends-finite .0) (ends-finite .1)
       (and-l (le (F .leastT) t) (le t (F .greatestT)) h) (and-r (le (F .leastT) t) (le t (F .greatestT)) h)
 
   pub density-in : T (between (real 0) r (F .greatestρ)) → In (densities F) r

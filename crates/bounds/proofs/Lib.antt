@@ -14,4 +14,4 @@ pub mod R245ca
 pub mod Permits
 pub mod NeverTwelve
 pub mod Searches
-pub mod Found
+pub mod AmongNumbers

@@ -3,7 +3,7 @@
 -- across P, and then with 8, its answers enclose P, and no search meets 12.
 use mathlib.Core.Path.{_≡_, refl, sym, ap, _∙_, subst}
 use mathlib.Core.Logic.{_↔_, _⊎_, inl, inr}
-use mathlib.Core.List.{List}
+use mathlib.Core.List.{List, [], _∷_}
 use mathlib.Core.Bool.{Bool, true, false, not, _&&_}
 use Prim.Native.Nat.{ℕ, zero, suc, _+_, _*_, _^_, _≤_, _<_}
 use native.Mathlib.Nat.{le-trans, mul-le-mul-right}
@@ -11,22 +11,27 @@ use native.Mathlib.Omega.{arith}
 use borrow.Author.Tests.{leb-true, ltb-true}
 use lib.Dec.{T, leb, ltb, lit<}
 use lib.ListN.{length}
-use lib.Ieee.{Float, binary64, ofInt, round, le, lt, isNan}
+use lib.Ieee.{Float, binary64, ofInt, round, mul, le, lt, isNan}
 use lib.Ieee.Fits.{and-i}
 use lib.Ieee.Exact.{HasValue}
 use lib.Ieee.Order.{le-of-values}
 use lib.Ieee.Scale.{finite}
 use Rattle.refusals.specs.declared.Refusal.{Refusal}
-use Rattle.refusals.specs.declared.Refusal.the-variants.{NoCell, NotEnclosed, NotNeighbours, WorkNotFinite}
+use Rattle.refusals.specs.declared.Refusal.the-variants.{InputNotFinite, TemperatureOutside, PressureOutside, TopOutside, TooShort, NoCell, NotEnclosed, NotNeighbours, WorkNotFinite}
+use Rattle.refusals.specs.declared.Permit.{Permit}
 use Rattle.refusals.specs.declared.Permit.the-variants.{Granted, Denied}
 use Rattle.arithmetic.specs.Checked.{real, two⁻, between}
+use Rattle.arithmetic.proofs.Order.{le-of-not-lt, not-le-of-lt, le-lt-trans}
 use Rattle.fluids.specs.R245ca.{r245ca}
 use Rattle.fluids.proofs.Limits.{r245ca-cells}
 use Rattle.equation.specs.Kept.{keptOf}
 use Rattle.equation.specs.Values.{pressureValue}
+use Rattle.search.specs.declared.Place.{Place}
+use Rattle.search.specs.declared.Place.the-variants.{At}
 use Rattle.search.specs.Plain.{endStep, atEnds}
 use Rattle.search.proofs.GreatestAndLeast.{Numbers}
 use Rattle.search.proofs.ExactlyEight.{NoCellEncloses}
+use Rattle.search.proofs.ExactlyEight as any
 use Rattle.search.proofs.Tests.{by, clash, and-passed}
 use Rattle.density.specs.declared.Side.{Side}
 use Rattle.density.specs.declared.Side.the-variants.{FromBelow, FromAbove}
@@ -35,19 +40,24 @@ use Rattle.density.specs.declared.Found.{Found}
 use Rattle.density.specs.declared.Found.the-variants.{State}
 use Rattle.density.specs.declared.Prepared.{Prepared}
 use Rattle.density.specs.declared.Prepared.the-variants.{Ready}
-use Rattle.density.specs.Inputs.{temperaturePermittedOf, pressurePermittedOf, topPermittedOf, roomOf, searchInputsOf, prepareInputsOf}
+use Rattle.density.specs.Inputs.{temperaturePermittedOf, pressurePermittedOf, topPermittedOf, roomOf, firstRefusalOf, searchInputsOf, prepareInputsOf}
+use Rattle.density.specs.Granted.{Question}
+use Rattle.density.specs.State.{stateWordOf, foundStateOf}
 use Rattle.density.specs.Steps.{stepDensityOf, stepPressureOf}
-use Rattle.density.specs.Calls.{pressuresOf, plainOf, prepareOf, greatestAfter, leastAfter, quickOf}
+use Rattle.density.specs.Calls.{pressuresOf, plainStepOf, searched, plainOf, prepareOf, greatestAfter, leastAfter, quickOf}
 use Rattle.density.proofs.StepExact.{step-exact}
-use Rattle.density.proofs.Permitted.{Passed, search-passed, prepare-passed}
+use Rattle.density.proofs.Permitted.{Passed, search-passed, question, prepare-passed}
+use Rattle.density.proofs.NeverNine.{state-refuses, searched-refuses, quick-call-never-nine}
+use Rattle.density.proofs.QuickIsPlain.{quick-is-plain, never-sixteen}
 use Rattle.density.proofs.Twelve.{gives-twelve-is-not-finite}
-use Rattle.density.proofs.Encloses.{Answers, plain-from-below-encloses}
+use Rattle.density.proofs.Encloses.{Answers, plain-from-below-encloses, plain-from-above-encloses}
 use Rattle.density.proofs.ExactlyEight.{refuses-with-eight, refuses-exactly}
 use Rattle.density.proofs.PreparationFails.{fails-with-twelve, fails-exactly}
 use Rattle.bounds.proofs.Functions.{is-true}
-use Rattle.bounds.proofs.Entry.{finite-in-range}
-use Rattle.bounds.proofs.Permits.{holds}
-use Rattle.bounds.proofs.R245ca.{r245ca-passes}
+use Rattle.bounds.proofs.Entry.{temperature-finite, finite-in-range}
+use Rattle.bounds.proofs.Permits.{holds, never-denied}
+use Rattle.bounds.proofs.R245ca.{r245ca-passes, r245ca-rises}
+use Rattle.bounds.proofs.AmongNumbers.{HasStep, below-found, above-found, above-refuses-exactly}
 
 -- ---- a step's density is in the range
 -- 1,664 cells of 2²³ steps of 2⁻³⁰ are 13 mol/dm³
@@ -110,3 +120,104 @@ module _ (t P : Float) (c : ℕ) (ok : searchInputsOf t P c true ≡ Granted) wh
 
   pub below-refuses-exactly : (plainOf t P c FromBelow ≡ Found.Refused NoCell) ↔ NoCellEncloses (atEnds (pressuresOf t)) P c
   below-refuses-exactly = refuses-exactly t P c ok all-numbers
+
+-- ---- a search at permitted inputs, by what its place is
+twelve-not-eight : WorkNotFinite ≡ NoCell → ⊥
+twelve-not-eight e = let z : _≡_ {A = ℕ} 0 1 = cc in omega arith
+
+state-found : (t : Float) (side : Side) (x : Place) → HasStep x → (density : Float) × (word : Word) × (foundStateOf t side x ≡ State density word)
+unfolding foundStateOf
+state-found t side x (k, e) = (stepDensityOf k, stateWordOf t side, rw e)
+
+inputs-not-12 : (t P : Float) (c : ℕ) (room : Bool) → searchInputsOf t P c room ≡ Denied WorkNotFinite → ⊥
+unfolding searchInputsOf firstRefusalOf
+inputs-not-12 t P c room = never-denied
+    ((finite t && finite P, InputNotFinite)
+    ∷ (temperaturePermittedOf t, TemperatureOutside)
+    ∷ (pressurePermittedOf P, PressureOutside)
+    ∷ (topPermittedOf c, TopOutside)
+    ∷ (room, TooShort)
+    ∷ []) tt
+
+module _ (t P : Float) (c : ℕ) (ok : searchInputsOf t P c true ≡ Granted) where
+  asked : Question (pressuresOf t) P c
+  asked = question t P c true ok (keptOf r245ca t)
+
+  -- at density 0 the pressure is not above P
+  starts-low : le (pressuresOf t 0) P ≡ true
+  starts-low = le-of-not-lt (pressuresOf t 0) P (number-at-zero t (search-passed t P c true ok .temperature-passed)) (asked .number) (asked .start)
+
+  place-not-12 : (side : Side) → plainStepOf side (pressuresOf t) P c ≡ Place.Refused WorkNotFinite → ⊥
+  place-not-12 FromBelow r = twelve-not-eight (any.refuses-with-eight (pressuresOf t) P c (all-numbers t P c ok) WorkNotFinite r)
+  place-not-12 FromAbove r = twelve-not-eight (above-refuses-exactly (pressuresOf t) P c (asked .some-cell) (all-numbers t P c ok) starts-low WorkNotFinite r .0)
+
+  -- from above it refuses with 8 only, and only if the pressure at the top is not above P
+  pub above-refuses-with-eight : (e : Refusal) → plainOf t P c FromAbove ≡ Found.Refused e → (e ≡ NoCell) × (le (pressuresOf t (endStep c)) P ≡ true)
+  unfolding plainOf
+  above-refuses-with-eight e r =
+      above-refuses-exactly (pressuresOf t) P c (asked .some-cell) (all-numbers t P c ok) starts-low e
+      (state-refuses t FromAbove (plainStepOf FromAbove (pressuresOf t) P c) e (rw ok at r))
+
+  -- where the pressure at the top is above P there is a density, from either side
+  place-found : lt P (pressuresOf t (endStep c)) ≡ true → (side : Side) → HasStep (plainStepOf side (pressuresOf t) P c)
+  place-found top FromBelow = below-found (pressuresOf t) P c (asked .some-cell) (all-numbers t P c ok) top
+  place-found top FromAbove =
+      above-found (pressuresOf t) P c (asked .some-cell) (all-numbers t P c ok) starts-low
+      (not-le-of-lt (pressuresOf t (endStep c)) P (all-numbers t P c ok (endStep c) (omega arith)) (asked .number) top)
+
+  pub density-found : lt P (pressuresOf t (endStep c)) ≡ true → (side : Side) → (density : Float) × (word : Word) × (plainOf t P c side ≡ State density word)
+  unfolding plainOf
+  density-found top side = rw ok (state-found t side (plainStepOf side (pressuresOf t) P c) (place-found top side))
+
+-- ---- whatever the numbers are
+module _ (t P : Float) (c : ℕ) (side : Side) where
+  -- no plain search meets 12
+  pub plain-never-12 : plainOf t P c side ≡ Found.Refused WorkNotFinite → ⊥
+  unfolding plainOf
+  plain-never-12 r =
+      searched-refuses (searchInputsOf t P c true) t side (plainStepOf side (pressuresOf t) P c) WorkNotFinite r
+      (inputs-not-12 t P c true) (λ ok x. place-not-12 t P c ok side x)
+
+  -- over prepared lists the quick search meets none of 9, 12 and 16
+  module _ (g l : List Float) (ready : prepareOf t c g l ≡ Ready) where
+    pub quick-never-12 : quickOf t P c side (greatestAfter t c g l) (leastAfter t c g l) ≡ Found.Refused WorkNotFinite → ⊥
+    quick-never-12 r = plain-never-12 (sym (quick-is-plain t c g l ready P side) ∙ r)
+
+    pub quick-never-9 : quickOf t P c side (greatestAfter t c g l) (leastAfter t c g l) ≡ Found.Refused NotNeighbours → ⊥
+    quick-never-9 r = quick-call-never-nine t P c side (greatestAfter t c g l) (leastAfter t c g l) r
+
+    pub quick-never-16 : quickOf t P c side (greatestAfter t c g l) (leastAfter t c g l) ≡ Found.Refused NotEnclosed → ⊥
+    quick-never-16 r = never-sixteen t c g l ready P side r
+
+-- ---- an answered density encloses P, with no proviso for the side from below
+granted-of : (i : Permit) (f : Found) (density : Float) (word : Word) → searched i f ≡ State density word → i ≡ Granted
+granted-of Granted f density word e = refl
+granted-of (Denied r) f density word e = let z : _≡_ {A = ℕ} 0 1 = cc in absurd (omega arith)
+
+pub plain-encloses : (t P : Float) (c : ℕ) (side : Side) (density : Float) (word : Word) → plainOf t P c side ≡ State density word → Answers t P c side density word
+unfolding plainOf
+plain-encloses t P c FromBelow density word e =
+    let ok = granted-of (searchInputsOf t P c true) _ density word e in
+    plain-from-below-encloses t P c density word (number-at-zero t (search-passed t P c true ok .temperature-passed)) e
+plain-encloses t P c FromAbove density word e = plain-from-above-encloses t P c density word e
+
+-- ---- no permitted question is left without a density: at 1,664 cells every permitted T and P gets one, from below and from above
+top-density : stepDensityOf (endStep 1664) ≡ r245ca .greatestρ
+unfolding stepDensityOf r245ca mul ofInt round
+top-density = refl
+
+top-pressure : (t : Float) → temperaturePermittedOf t ≡ true → lt (r245ca .greatestP) (pressuresOf t (endStep 1664)) ≡ true
+unfolding temperaturePermittedOf stepPressureOf
+top-pressure t ok =
+    let (low, high) = and-passed (le (r245ca .leastT) t) (le t (r245ca .greatestT)) ok in
+    rw top-density
+    (unfold pressureValue in
+    r245ca-rises t (temperature-finite r245ca r245ca-passes t (real 0) (holds (between (r245ca .leastT) t (r245ca .greatestT)) ok))
+    (holds (le (r245ca .leastT) t) low) (holds (le t (r245ca .greatestT)) high))
+
+pub every-question-answered : (t P : Float) (side : Side) → searchInputsOf t P 1664 true ≡ Granted → (density : Float) × (word : Word) × (plainOf t P 1664 side ≡ State density word)
+unfolding pressurePermittedOf
+every-question-answered t P side ok =
+    let passed = search-passed t P 1664 true ok in
+    let (low, high) = and-passed (le (r245ca .leastP) P) (le P (r245ca .greatestP)) (passed .pressure-passed) in
+    density-found t P 1664 ok (le-lt-trans P (r245ca .greatestP) (pressuresOf t (endStep 1664)) high (top-pressure t (passed .temperature-passed))) side

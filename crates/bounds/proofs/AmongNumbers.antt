@@ -20,11 +20,11 @@ use Rattle.search.proofs.Tests.{by, clash}
 use Rattle.search.proofs.GreatestAndLeast.{Numbers}
 use Rattle.search.proofs.NeverNine.{found-not-refused, same-refusal, cell-refuses}
 
-abbrev pub Found : Place → Type 0
-Found x = (k : ℕ) × (x ≡ At k)
+abbrev pub HasStep : Place → Type 0
+HasStep x = (k : ℕ) × (x ≡ At k)
 
 -- a place that is not refused is found
-found-of : (x : Place) → ((e : Refusal) → x ≡ Refused e → ⊥) → Found x
+found-of : (x : Place) → ((e : Refusal) → x ≡ Refused e → ⊥) → HasStep x
 found-of (At k) n = (k, refl)
 found-of (Refused e) n = absurd (n e refl)
 
@@ -46,14 +46,14 @@ module _ (p : ℕ → Float) (P : Float) (c : ℕ) (num : Numbers p (endStep c))
   ends-numbers : Numbers (atEnds p) c
   ends-numbers i h = num (endStep i) (omega arith)
 
-  cell-found : (j : ℕ) → j < c → Found (inCell p P (At j))
+  cell-found : (j : ℕ) → j < c → HasStep (inCell p P (At j))
   cell-found j h = found-of (inCell p P (At j)) (λ e r.
       halving-not-12 p P 23 (endStep j) (endStep (j + 1)) (omega arith) (λ i k. num i (omega arith))
       (unfold inCell in r ∙ ap Refused (cell-refuses p P j e r)))
 
   -- from a found cell to its step
-  step-found : (x : Place) → ((j : ℕ) × (j < c) × (x ≡ At j)) → Found (inCell p P x)
-  step-found x (j, h, e) = subst (λ (y : Place). Found (inCell p P y)) (sym e) (cell-found j h)
+  step-found : (x : Place) → ((j : ℕ) × (j < c) × (x ≡ At j)) → HasStep (inCell p P x)
+  step-found x (j, h, e) = subst (λ (y : Place). HasStep (inCell p P y)) (sym e) (cell-found j h)
 
 -- ---- the visits
 up-found : (q : ℕ → Float) (P : Float) (n j : ℕ) → Numbers q (j + suc n) → lt P (q (j + suc n)) ≡ true → (k : ℕ) × (k < j + suc n) × (visitUp q P (suc n) j ≡ At k)
@@ -83,7 +83,7 @@ down-found q P (suc j) num low =
 
 -- ---- the searches
 module _ (p : ℕ → Float) (P : Float) where
-  pub below-found : (c : ℕ) → 1 ≤ c → Numbers p (endStep c) → lt P (p (endStep c)) ≡ true → Found (stepFromBelow p P c)
+  pub below-found : (c : ℕ) → 1 ≤ c → Numbers p (endStep c) → lt P (p (endStep c)) ≡ true → HasStep (stepFromBelow p P c)
   unfolding cellFromBelow
   below-found zero h num top = absurd (omega arith)
   below-found (suc n) h num top =
@@ -98,7 +98,7 @@ module _ (p : ℕ → Float) (P : Float) where
       (j, under, simp (num (endStep (suc n)) (omega arith), top) e)
 
   module _ (c : ℕ) (some : 1 ≤ c) (num : Numbers p (endStep c)) (low : le (p 0) P ≡ true) where
-    pub above-found : le (p (endStep c)) P ≡ false → Found (stepFromAbove p P c)
+    pub above-found : le (p (endStep c)) P ≡ false → HasStep (stepFromAbove p P c)
     above-found top = step-found p P c num _ (top-cell c some num low top)
 
     -- from above 8 comes exactly if the pressure at the top is not above P
