@@ -15,3 +15,4 @@ pub mod Permits
 pub mod NeverTwelve
 pub mod Searches
 pub mod AmongNumbers
+pub mod Elementary

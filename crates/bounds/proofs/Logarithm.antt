@@ -44,7 +44,7 @@ lnWorkOver M E =
     Z ⊠ Z ▶ λ S.
     (point (real 2) ⊠ Z) ⊠ lnStepsOver S 10 (point (real 1) ÷ point (real 21)) ⊞ E ⊠ point (6931471805599453 e- 16)
 
-ln-work : {M E : Interval} {m e : Float} → In M m → In E e → In (lnWorkOver M E) (lnWork m e)
+pub ln-work : {M E : Interval} {m e : Float} → In M m → In E e → In (lnWorkOver M E) (lnWork m e)
 unfolding lnWorkOver lnWork
 ln-work a b =
     let one = at (real 1) in
@@ -188,7 +188,7 @@ not-leb : (a b : ℕ) → (T (leb a b) → ⊥) → a ≤ b → ⊥
 not-leb a b n h = n (le→leb a b h)
 
 -- wherever x is, m lies from 0.75 to 1.5
-m-anywhere : (x : Float) → In (interval (75 e- 2) (15 e- 1)) (mOf x)
+pub m-anywhere : (x : Float) → In (interval (75 e- 2) (15 e- 1)) (mOf x)
 m-anywhere x = tested (75 e- 2) (15 e- 1) (mOf x) finite-075 finite-15 (m-low x) (below-is-le (mOf x) (15 e- 1) (m-high x))
 
 abbrev InRange : Float → Type 0
