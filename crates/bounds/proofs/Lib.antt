@@ -16,3 +16,4 @@ pub mod NeverTwelve
 pub mod Searches
 pub mod AmongNumbers
 pub mod Elementary
+pub mod Potentials

@@ -1,0 +1,127 @@
+-- Entropy, Gibbs and Helmholtz energy refuse with 12 exactly where the inputs are permitted, so the density is above 0, and δ is under
+-- 2⁻⁶⁰: there ln δ has no value, and elsewhere the entry's test has shown a number.
+use mathlib.Core.Path.{_≡_, refl, sym, ap, _∙_, subst}
+use mathlib.Core.Logic.{_↔_}
+use mathlib.Core.Bool.{Bool, true, false, not, cond, _&&_}
+use mathlib.Core.List.{[], _∷_}
+use Prim.Native.Nat.{ℕ, _^_}
+use native.Mathlib.Omega.{arith}
+use lib.Dec.{T}
+use lib.Ieee.{Float, nan, inf, fin, le, lt, eq, isNan, round}
+use lib.Ieee.Scale.{finite}
+use Rattle.refusals.specs.declared.Refusal.the-variants.{AtZeroDensity, WorkNotFinite}
+use Rattle.refusals.specs.declared.Permit.{Permit}
+use Rattle.refusals.specs.declared.Permit.the-variants.{Granted, Denied}
+use Rattle.refusals.specs.declared.Answer.{Answer}
+use Rattle.refusals.specs.declared.Answer.the-variants.{Refused}
+use Rattle.refusals.specs.Order.{firstOf, permitted}
+use Rattle.refusals.proofs.Needed.{test-passed, also, first-of-both, permitted-granted}
+use Rattle.arithmetic.specs.Checked.{real, two⁻, between, _⊕_, _⊖_, _⊗_}
+use Rattle.arithmetic.specs.Ln.{lnOf}
+use Rattle.arithmetic.specs.Calls.{outcomeOf}
+use Rattle.arithmetic.proofs.Operations.{nan-⊕, nan-⊖}
+use Rattle.arithmetic.proofs.Zeros.{times-nan, plus-nan}
+use Rattle.arithmetic.proofs.Order.{lt-of-not-le, not-le-of-lt}
+use Rattle.fluids.specs.Fluid.{Fluid}
+use Rattle.equation.specs.Ideal.{I0}
+use Rattle.equation.specs.Values.{τ, δ, i0, entropyValue, gibbsValue, helmholtzValue}
+use Rattle.equation.specs.Calls.{workedDensity, stateTests, statePermit, potentialPermit, entropyOf, gibbsOf, helmholtzOf}
+use Rattle.search.proofs.Tests.{by, clash}
+use Rattle.bounds.proofs.Entry.{passes, Finite}
+use Rattle.bounds.proofs.Elementary.{ln-outside}
+use Rattle.bounds.proofs.Permits.{holds, refused-granted, potential-denied}
+use Rattle.bounds.proofs.NeverTwelve.{finite-where-granted}
+
+-- ---- what a granted permit says
+also-granted : (p q : Permit) → also p q ≡ Granted → (p ≡ Granted) × (q ≡ Granted)
+also-granted Granted q e = (refl, e)
+also-granted (Denied r) q e = let z : _≡_ {A = ℕ} 0 1 = cc in absurd (omega arith)
+
+not-true : (b : Bool) → not b ≡ true → b ≡ false
+not-true true e = sym e
+not-true false e = refl
+
+module _ (F : Fluid) (t ρ : Float) (granted : potentialPermit F t ρ ≡ Granted) where
+  both : (statePermit F t ρ ≡ Granted) × (firstOf ((not (eq ρ (real 0)), AtZeroDensity) ∷ []) ≡ Granted)
+  unfolding potentialPermit statePermit
+  both = also-granted (firstOf (stateTests F t ρ)) (firstOf ((not (eq ρ (real 0)), AtZeroDensity) ∷ [])) (sym (first-of-both (stateTests F t ρ) ((not (eq ρ (real 0)), AtZeroDensity) ∷ [])) ∙ granted)
+
+  worked-itself : workedDensity ρ ≡ ρ
+  unfolding workedDensity
+  worked-itself = rw (not-true (eq ρ (real 0)) (test-passed (not (eq ρ (real 0))) Granted AtZeroDensity (both .1)))
+
+-- ---- with no ln δ there is no value
+module _ (x : Float) where
+  nan-plus : nan ⊕ x ≡ nan
+  nan-plus = nan-⊕ x .0
+
+  nan-less : nan ⊖ x ≡ nan
+  nan-less = nan-⊖ x .0
+
+  less-nan : x ⊖ nan ≡ nan
+  less-nan = nan-⊖ x .1
+
+module _ (F : Fluid) (t r : Float) (small : le (two⁻ 60) (δ F t r) ≡ false) where
+  no-ln : lnOf (δ F t r) ≡ nan
+  no-ln = ln-outside (δ F t r) (rw small)
+
+  no-i0 : i0 F t r ≡ nan
+  unfolding i0 I0
+  no-i0 = simp (no-ln, plus-nan, nan-plus)
+
+  no-helmholtz : helmholtzValue F t r ≡ nan
+  unfolding helmholtzValue
+  no-helmholtz = simp (no-i0, nan-plus, times-nan)
+
+  no-gibbs : gibbsValue F t r ≡ nan
+  unfolding gibbsValue
+  no-gibbs = simp (no-i0, plus-nan, nan-plus, times-nan)
+
+  no-entropy : entropyValue F t r ≡ nan
+  unfolding entropyValue
+  no-entropy = simp (no-i0, less-nan, nan-less, times-nan)
+
+-- ---- the exact condition
+finite-number : (x : Float) → T (finite x) → isNan x ≡ false
+unfolding isNan
+finite-number (fin s m e) t = refl
+
+tiny-number : isNan (two⁻ 60) ≡ false
+unfolding isNan round
+tiny-number = refl
+
+module _ (F : Fluid) (ok : T (passes F)) (t ρ : Float) where
+  -- permitted, and δ under 2⁻⁶⁰
+  abbrev pub Small : Type 0
+  Small = (potentialPermit F t ρ ≡ Granted) × (lt (δ F t ρ) (two⁻ 60) ≡ true)
+
+  in-range : potentialPermit F t ρ ≡ Granted → Finite F t ρ
+  in-range g = subst (Finite F t) (worked-itself F t ρ g) (finite-where-granted F ok t ρ (both F t ρ g .0))
+
+  exactly : (v : Float → Float) → (potentialPermit F t ρ ≡ Granted → T (le (two⁻ 60) (δ F t ρ)) → T (finite (v ρ))) → (le (two⁻ 60) (δ F t ρ) ≡ false → v ρ ≡ nan)
+      → (permitted (potentialPermit F t ρ) (outcomeOf (v (workedDensity ρ))) ≡ Refused WorkNotFinite) ↔ Small
+  exactly v number none = (
+    (λ r.
+        let (g, not-finite) = refused-granted (potentialPermit F t ρ) (v (workedDensity ρ)) (potential-denied F t ρ) r in (
+          g,
+          by (le (two⁻ 60) (δ F t ρ))
+              (λ large. absurd (subst T not-finite (subst (λ (x : Float). T (finite (v x))) (sym (worked-itself F t ρ g)) (number g (holds (le (two⁻ 60) (δ F t ρ)) large)))))
+              (λ small. lt-of-not-le (two⁻ 60) (δ F t ρ) tiny-number (finite-number (δ F t ρ) (in-range g .reduced)) small),
+        )),
+    (λ (g, small).
+        permitted-granted (potentialPermit F t ρ) (outcomeOf (v (workedDensity ρ))) g
+        ∙ ap outcomeOf (ap v (worked-itself F t ρ g)
+        ∙ none (not-le-of-lt (two⁻ 60) (δ F t ρ) tiny-number (finite-number (δ F t ρ) (in-range g .reduced)) small))),
+  )
+
+  pub entropy-12 : (entropyOf F t ρ ≡ Refused WorkNotFinite) ↔ Small
+  unfolding entropyOf
+  entropy-12 = exactly (entropyValue F t) (λ g. in-range g .entropy) (no-entropy F t ρ)
+
+  pub gibbs-12 : (gibbsOf F t ρ ≡ Refused WorkNotFinite) ↔ Small
+  unfolding gibbsOf
+  gibbs-12 = exactly (gibbsValue F t) (λ g. in-range g .gibbs) (no-gibbs F t ρ)
+
+  pub helmholtz-12 : (helmholtzOf F t ρ ≡ Refused WorkNotFinite) ↔ Small
+  unfolding helmholtzOf
+  helmholtz-12 = exactly (helmholtzValue F t) (λ g. in-range g .helmholtz) (no-helmholtz F t ρ)
