@@ -22,6 +22,7 @@ use Rattle.arithmetic.specs.Calls.{outcomeOf, calledOf, exponentialOf, logarith
 use Rattle.arithmetic.proofs.Fields.{m-field-small}
 use Rattle.arithmetic.proofs.Literals.{finite-700, finite-minus-700, finite-1, finite-1e8}
 use Rattle.search.proofs.Tests.{by}
+use Rattle.bounds.proofs.Fractions.{holds}
 use Rattle.bounds.proofs.Rounding.{round-anti, signs-apart}
 use Rattle.bounds.proofs.Interval.{Interval, In, interval, tested, known, in-known, pick, lesser, greater, hull, across, _▶_, lies}
 use Rattle.bounds.proofs.Sum.{_⊞_, _⊟_, negated}
@@ -29,7 +30,6 @@ use Rattle.bounds.proofs.Product.{_⊠_, productBy, fourProducts}
 use Rattle.bounds.proofs.Quotient.{_÷_, quotientBy, fourQuotients, onlyIf}
 use Rattle.bounds.proofs.Functions.{expOver, expStepsOver, squaredOver, rootOver, rootStepsOver, ⟨exp⟩, ⟨root⟩}
 use Rattle.bounds.proofs.Logarithm.{lnWorkOver, lnStepsOver, ln-work, m-anywhere}
-use Rattle.bounds.proofs.Permits.{holds}
 
 -- ---- exp from −700 to 700, root from 1 to 10⁸
 exp-known : T (known (expOver (interval (minus (real 700)) (real 700))))

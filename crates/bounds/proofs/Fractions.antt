@@ -1,5 +1,5 @@
 -- A finite binary64 is a fraction with a sign, and the order that the tests see is the order of these fractions.
-use mathlib.Core.Path.{_≡_, sym, subst}
+use mathlib.Core.Path.{_≡_, refl, sym, subst}
 use mathlib.Core.Logic.{_⊎_, inl, inr}
 use Prim.Native.Nat.{ℕ, _+_, _*_, _≤_}
 use native.Mathlib.Nat.{add-mul, mul-add, mul-assoc, mul-comm, mul-left-comm, add-assoc, add-comm, add-left-comm, le-of-eq, le-of-lt, mul-le-mul-right, le-of-mul-le-mul-right, eq-zero-or-pos, eq-or-lt-of-le, lt-of-not-le}
@@ -10,6 +10,14 @@ use lib.Ieee.{Float, nan, inf, fin, up, down, le, lt}
 use lib.Ieee.Fits.{and-i, and-l, and-r}
 use lib.Ieee.Positive.{den, den-pos}
 use lib.Ieee.Scale.{finite}
+
+-- a test that passed, as an equation
+pub is-true : (b : Bool) → T b → b ≡ true
+is-true true t = refl
+is-true false t = absurd t
+
+pub holds : (b : Bool) → b ≡ true → T b
+holds b p = subst T (sym p) tt
 
 -- sums of products in one order
 pub ruleset rearranged = (add-mul, mul-add, mul-assoc, mul-comm, mul-left-comm, add-assoc, add-comm, add-left-comm)

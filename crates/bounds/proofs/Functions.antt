@@ -13,16 +13,13 @@ use Rattle.arithmetic.specs.Power.{powerOf, _↑_}
 use Rattle.arithmetic.proofs.Forced.{forced}
 use Rattle.arithmetic.proofs.Within.{within-in}
 use Rattle.arithmetic.proofs.Literals.{finite-700, finite-minus-700, finite-1, finite-1e8}
+use Rattle.bounds.proofs.Fractions.{is-true}
 use Rattle.bounds.proofs.Interval.{Interval, In, point, at, hull, hull-left, hull-right, _▶_, computed, lies, lies-in}
 use Rattle.bounds.proofs.Sum.{_⊞_, _⟨⊕⟩_}
 use Rattle.bounds.proofs.Product.{_⊠_, _⟨⊗⟩_}
 use Rattle.bounds.proofs.Quotient.{_÷_, _⟨⊘⟩_, onlyIf, only-if}
 
 infixl 75 _⇈_
-pub is-true : (b : Bool) → T b → b ≡ true
-is-true true t = refl
-is-true false t = absurd t
-
 -- where the interval lies in the range, so does the value, and what is worked there stands
 pub within-holds : {X W : Interval} {x v : Float} (lo hi : Float) → T (finite lo) → T (finite hi) → In X x → In W v → In (onlyIf (lies lo X hi) W) (within lo hi x v)
 within-holds {X = X} {x = x} {v = v} lo hi p q a b =

@@ -17,3 +17,4 @@ pub mod Searches
 pub mod AmongNumbers
 pub mod Elementary
 pub mod Potentials
+pub mod Cancellation

@@ -20,13 +20,12 @@ use Rattle.arithmetic.proofs.Literals.{finite-075, finite-15, finite-two⁻60, 
 use Rattle.arithmetic.proofs.Split.{split-holds, m-low, m-high}
 use Rattle.arithmetic.proofs.Order.{lt-le}
 use Rattle.arithmetic.proofs.Within.{within-in}
-use Rattle.bounds.proofs.Fractions.{Le, order-of-test, test-of-order, Le-total, Le-trans, between-finite}
+use Rattle.bounds.proofs.Fractions.{is-true, Le, order-of-test, test-of-order, Le-total, Le-trans, between-finite}
 use Rattle.bounds.proofs.Rounding.{round-anti, signs-apart}
 use Rattle.bounds.proofs.Interval.{Interval, unknown, ends, Inside, In, anything, inside, interval, tested, result-in, unsquash-in, point, at, hull, hull-left, hull-right, _▶_, computed, lies, lies-in}
 use Rattle.bounds.proofs.Sum.{_⊞_, _⊟_, _⟨⊕⟩_, _⟨⊖⟩_}
 use Rattle.bounds.proofs.Product.{_⊠_, _⟨⊗⟩_}
 use Rattle.bounds.proofs.Quotient.{_÷_, _⟨⊘⟩_, onlyIf, only-if}
-use Rattle.bounds.proofs.Functions.{is-true}
 
 -- ---- the steps
 unfoldable pub lnStepsOver : Interval → ℕ → Interval → Interval

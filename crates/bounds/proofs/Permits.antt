@@ -24,10 +24,7 @@ use Rattle.arithmetic.proofs.Order.{le-trans}
 use Rattle.fluids.specs.Fluid.{Fluid}
 use Rattle.fluids.proofs.Sound.{every}
 use Rattle.equation.specs.Calls.{workedDensity, stateTests, statePermit, potentialPermit}
-use Rattle.bounds.proofs.Functions.{is-true}
-
-pub holds : (b : Bool) → b ≡ true → T b
-holds b p = subst T (sym p) tt
+use Rattle.bounds.proofs.Fractions.{holds, is-true}
 
 -- ---- no permit of the inputs denies with 12
 abbrev otherThan12 : Bool × Refusal → Bool

@@ -27,9 +27,10 @@ use Rattle.equation.specs.Ideal.{I0}
 use Rattle.equation.specs.Values.{τ, δ, i0, entropyValue, gibbsValue, helmholtzValue}
 use Rattle.equation.specs.Calls.{workedDensity, stateTests, statePermit, potentialPermit, entropyOf, gibbsOf, helmholtzOf}
 use Rattle.search.proofs.Tests.{by, clash}
+use Rattle.bounds.proofs.Fractions.{holds}
 use Rattle.bounds.proofs.Entry.{passes, Finite}
 use Rattle.bounds.proofs.Elementary.{ln-outside}
-use Rattle.bounds.proofs.Permits.{holds, refused-granted, potential-denied}
+use Rattle.bounds.proofs.Permits.{refused-granted, potential-denied}
 use Rattle.bounds.proofs.NeverTwelve.{finite-where-granted}
 
 -- ---- what a granted permit says

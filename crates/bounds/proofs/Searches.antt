@@ -53,9 +53,9 @@ use Rattle.density.proofs.Twelve.{gives-twelve-is-not-finite}
 use Rattle.density.proofs.Encloses.{Answers, plain-from-below-encloses, plain-from-above-encloses}
 use Rattle.density.proofs.ExactlyEight.{refuses-with-eight, refuses-exactly}
 use Rattle.density.proofs.PreparationFails.{fails-with-twelve, fails-exactly}
-use Rattle.bounds.proofs.Functions.{is-true}
+use Rattle.bounds.proofs.Fractions.{holds, is-true}
 use Rattle.bounds.proofs.Entry.{temperature-finite, finite-in-range}
-use Rattle.bounds.proofs.Permits.{holds, never-denied}
+use Rattle.bounds.proofs.Permits.{never-denied}
 use Rattle.bounds.proofs.R245ca.{r245ca-passes, r245ca-rises}
 use Rattle.bounds.proofs.AmongNumbers.{HasStep, below-found, above-found, above-refuses-exactly}
 

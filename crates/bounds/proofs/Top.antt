@@ -10,12 +10,11 @@ use Rattle.arithmetic.specs.Checked.{real, _e-_, _⊕_, _⊗_, _⊘_}
 use Rattle.arithmetic.proofs.Order.{lt-le-trans}
 use Rattle.fluids.specs.Fluid.{Fluid}
 use Rattle.equation.specs.Values.{δ, sums, pressureValue}
-use Rattle.bounds.proofs.Fractions.{Le, Le-total, test-of-order, between-finite}
+use Rattle.bounds.proofs.Fractions.{is-true, Le, Le-total, test-of-order, between-finite}
 use Rattle.bounds.proofs.Interval.{Interval, unknown, ends, In, anything, inside, interval, tested, point, at, _▶_, computed}
 use Rattle.bounds.proofs.Sum.{_⊞_, _⟨⊕⟩_}
 use Rattle.bounds.proofs.Product.{_⊠_, _⟨⊗⟩_}
 use Rattle.bounds.proofs.Quotient.{_÷_, _⟨⊘⟩_}
-use Rattle.bounds.proofs.Functions.{is-true}
 use Rattle.bounds.proofs.Logarithm.{lnOver, ⟨ln⟩}
 use Rattle.bounds.proofs.Rows.{s1Over, s1-in}
 use Rattle.bounds.proofs.State.{quotient-fits, pressure-is}
