@@ -111,6 +111,10 @@ small-beside k (fin true m e) y p q h g =
     inr (below-tiny (add binary64 x y) _ _ (den x * den y) (suc k) (mul-pos (den-pos x) (den-pos y)) (sum-rounds binary64 x y p q)
     (rw pow-suc (dominated (2 ^ k) (num x) (den x) (den y) (plus y) (less y) (num y) h (rw pow-suc at g) (sum-of-parts y .0))))
 
+zero-is : Rounds binary64 (real 0) 0 0 1
+unfolding ofInt
+zero-is = rounds-up binary64 (real 0) 0 0 0 1 refl refl
+
 -- ---- the sum of x, |x| ≥ 2⁻ᵏ with a denominator up to 2ᵈ, and any binary64 is exactly 0 or apart from it
 module _ (x y : Float) (p : T (finite x)) (q : T (finite y)) where
   abbrev pub ExactlyZero : Type 0
@@ -133,3 +137,10 @@ module _ (x y : Float) (p : T (finite x)) (q : T (finite y)) where
       by-size : (b : Bool) → (T b → den y ≤ 2 ^ suc k * num y) → (T (not b) → 2 ^ suc k * num y < den y) → ExactlyZero ⊎ Apart (d + (k + 54)) (add binary64 x y)
       by-size true l s = both-large (l tt)
       by-size false l s = inr (less-apart (suc k) (d + (k + 54)) (omega arith) (add binary64 x y) (small-beside k x y p q h (le-of-lt (s tt))))
+
+  -- an exact 0 is rounded to 0
+  pub zero-rounds : ExactlyZero → T (le (add binary64 x y) (real 0)) × T (le (real 0) (add binary64 x y))
+  zero-rounds e = (
+    rounds-mono binary64 (add binary64 x y) (real 0) _ _ _ 0 0 1 (mul-pos (den-pos x) (den-pos y)) (lit< tt) (sum-rounds binary64 x y p q) zero-is (omega (arith, e)),
+    rounds-mono binary64 (real 0) (add binary64 x y) 0 0 1 _ _ _ (lit< tt) (mul-pos (den-pos x) (den-pos y)) zero-is (sum-rounds binary64 x y p q) (omega (arith, e)),
+  )

@@ -10,6 +10,8 @@ pub mod Rows
 pub mod State
 pub mod Entry
 pub mod Top
+pub mod Cancellation
+pub mod Estimates
 pub mod R245ca
 pub mod Permits
 pub mod NeverTwelve
@@ -17,4 +19,3 @@ pub mod Searches
 pub mod AmongNumbers
 pub mod Elementary
 pub mod Potentials
-pub mod Cancellation

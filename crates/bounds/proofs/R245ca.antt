@@ -9,11 +9,12 @@ use Rattle.bounds.proofs.Interval.{interval, pick, lesser, greater, hul
 use Rattle.bounds.proofs.Sum.{_⊞_, _⊟_, negated}
 use Rattle.bounds.proofs.Product.{_⊠_, productBy, fourProducts}
 use Rattle.bounds.proofs.Quotient.{_÷_, quotientBy, fourQuotients, onlyIf}
-use Rattle.bounds.proofs.Functions.{expOver, expStepsOver, squaredOver, _⇈_}
+use Rattle.bounds.proofs.Functions.{expOver, expStepsOver, squaredOver, _⇈_, powerOver}
 use Rattle.bounds.proofs.Logarithm.{lnOver, lnBy, lnLowest, lnHighest, lnBetween, before, lnWorkOver, lnStepsOver}
 use Rattle.bounds.proofs.Rows.{powerAtOver, bellAtOver, xAtOver, rowAtOver, rowComputed, sumsComputed, addRowOver, termOver, sumsToOver, sumsOver, s1ToOver, s1Over}
 use Rattle.bounds.proofs.State.{part0Over, part1Over, part2Over, totalToOver, I0Over, I1Over, I2Over, finished, stateOver}
 use Rattle.bounds.proofs.Entry.{passes}
+use Rattle.bounds.proofs.Estimates.{estimateOver, estimateAtOver, plusOver, estimatesOver, estimatesKnown, estimateEnds}
 use Rattle.bounds.proofs.Top.{pressureOver, Rises, slice, slice-rises, joined}
 
 pub r245ca-passes : T (passes r245ca)
@@ -49,3 +50,12 @@ r245ca-rises =
     (joined r245ca (real 240) (real 283) (real 450) tt (slice-rises r245ca (real 240) (real 283) from-240)
     (joined r245ca (real 283) (real 345) (real 450) tt (slice-rises r245ca (real 283) (real 345) from-283)
     (slice-rises r245ca (real 345) (real 450) from-345))))
+
+-- the saturation estimates
+pub r245ca-estimate-ends : T (estimateEnds r245ca)
+unfolding r245ca interval pick lesser greater hull across lies _⊞_ _⊟_ negated _÷_ quotientBy fourQuotients onlyIf minus ofInt round le lt eq neg add sub mul div
+r245ca-estimate-ends = tt
+
+pub r245ca-estimates : T (estimatesKnown r245ca)
+unfolding r245ca interval pick lesser greater hull across fromOn _▶_ lies _⊞_ _⊟_ negated _⊠_ productBy fourProducts _÷_ quotientBy fourQuotients onlyIf expOver expStepsOver squaredOver powerOver lnOver lnBy lnLowest lnHighest lnBetween before lnWorkOver lnStepsOver estimateOver estimateAtOver plusOver estimatesOver estimatesKnown mOf eOf minus fits toBits ofBits ofInt round le lt eq neg add sub mul div
+r245ca-estimates = tt

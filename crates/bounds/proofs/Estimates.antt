@@ -1,0 +1,221 @@
+-- The three saturation estimates never refuse with 12: θ = 1 − T/Tc is 0 or at least 2⁻⁵⁴, so ln θ has a value wherever a power asks for
+-- it, and the whole range is worked as one interval.
+use mathlib.Core.Path.{_≡_, refl, sym, ap, _∙_, subst}
+use mathlib.Core.Logic.{_⊎_, inl, inr}
+use mathlib.Core.Bool.{Bool, true, false, _&&_, _||_}
+use mathlib.Core.List.{List, [], _∷_}
+use Prim.Native.Nat.{ℕ, zero, suc, _+_, _*_, _^_, _≤_}
+use lib.Dec.{T, lit≤}
+use lib.ListN.{getD}
+use lib.Ieee.{Float, nan, inf, fin, binary64, fits, ofInt, round, le, lt, eq, neg, add, sub}
+use lib.Ieee.Fits.{and-l, and-r, neg-fits}
+use lib.Ieee.Positive.{num, den}
+use lib.Ieee.Scale.{finite}
+use Rattle.refusals.specs.declared.Refusal.the-variants.{InputNotFinite, TemperatureOutside, AboveCritical, WorkNotFinite}
+use Rattle.refusals.specs.declared.Permit.the-variants.{Granted, Denied}
+use Rattle.refusals.specs.declared.Answer.the-variants.{Refused}
+use Rattle.refusals.specs.Order.{firstOf}
+use Rattle.refusals.proofs.Needed.{test-passed, rest-granted}
+use Rattle.arithmetic.specs.Checked.{real, two⁻, squash, between, _⊕_, _⊖_, _⊗_, _⊘_}
+use Rattle.arithmetic.specs.Ln.{lnOf}
+use Rattle.arithmetic.proofs.Forced.{forced}
+use Rattle.arithmetic.proofs.Order as tests
+use Rattle.fluids.specs.declared.Estimate.{Estimate}
+use Rattle.fluids.specs.declared.Estimate.the-variants.{Alone, Raised}
+use Rattle.fluids.specs.Fluid.{Fluid}
+use Rattle.saturation.specs.Estimates.{thetaOf, termOf, termAt, plusTerms, pressureEstimate, liquidEstimate, vapourEstimate}
+use Rattle.saturation.specs.Calls.{saturationPermit, saturationPressureOf, saturatedLiquidOf, saturatedVapourOf}
+use Rattle.bounds.proofs.Fractions.{is-true, holds, between-finite}
+use Rattle.bounds.proofs.Interval.{Interval, ends, In, interval, tested, point, at, known, in-known, lies, lies-in, fromOn, from-on-in, _▶_, computed}
+use Rattle.bounds.proofs.Sum.{_⊞_, _⊟_, _⟨⊕⟩_, _⟨⊖⟩_}
+use Rattle.bounds.proofs.Product.{_⊠_, _⟨⊗⟩_}
+use Rattle.bounds.proofs.Quotient.{_÷_, _⟨⊘⟩_}
+use Rattle.bounds.proofs.Functions.{expOver, ⟨exp⟩, powerOver, ⟨power⟩}
+use Rattle.bounds.proofs.Logarithm.{lnOver, ⟨ln⟩}
+use Rattle.bounds.proofs.State.{quotient-fits, difference-fits}
+use Rattle.bounds.proofs.Cancellation.{Large, ExactlyZero, sum-apart, zero-rounds}
+use Rattle.bounds.proofs.Permits.{never-denied, never-12}
+
+-- ---- the terms, where L holds ln θ unless θ is 0
+unfoldable pub estimateOver : Interval → Interval → Estimate → Interval
+estimateOver Θ L (Alone n) = point n ⊠ Θ
+estimateOver Θ L (Raised n t) = point n ⊠ powerOver L t
+
+unfoldable pub estimateAtOver : Interval → Interval → List Estimate → ℕ → Interval
+estimateAtOver Θ L terms i = estimateOver Θ L (getD terms i (Alone nan))
+
+unfoldable pub plusOver : Interval → Interval → List Estimate → Interval → ℕ → ℕ → Interval
+plusOver Θ L terms S k zero = S
+plusOver Θ L terms S k (suc n) = plusOver Θ L terms S k n ▶ λ S. S ⊞ estimateAtOver Θ L terms (k + n)
+
+module _ {Θ L : Interval} {θ : Float} (h : In Θ θ) (w : eq θ (real 0) ≡ false → In L (lnOf θ)) where
+  term-in : (e : Estimate) → In (estimateOver Θ L e) (termOf θ e)
+  unfolding estimateOver termOf
+  term-in (Alone n) = at n ⟨⊗⟩ h
+  term-in (Raised n t) = at n ⟨⊗⟩ ⟨power⟩ θ t w
+
+  term-at-in : (terms : List Estimate) (i : ℕ) → In (estimateAtOver Θ L terms i) (termAt θ terms i)
+  unfolding estimateAtOver termAt
+  term-at-in terms i = term-in (getD terms i (Alone nan))
+
+  plus-in : {S : Interval} {s : Float} (terms : List Estimate) → In S s → (k n : ℕ) → In (plusOver Θ L terms S k n) (plusTerms θ terms s k n)
+  unfolding plusOver plusTerms
+  plus-in terms a k zero = a
+  plus-in terms a k (suc n) = simp (computed, forced) (plus-in terms a k n ⟨⊕⟩ term-at-in terms (k + n))
+
+-- ---- the estimates
+pub data Three : Type 0 where
+  three : (pressure liquid vapour : Interval) → Three
+
+unfoldable pub estimatesOver : Fluid → Interval → Interval → Interval → Three
+estimatesOver F Ts Θ L =
+    three
+    (point (F .pc) ⊠ expOver ((point (F .Tc) ÷ Ts) ⊠ plusOver Θ L (F .pressureTerms) (estimateAtOver Θ L (F .pressureTerms) 0) 1 3))
+    (point (F .ρc) ⊠ plusOver Θ L (F .liquidTerms) (point (real 1)) 0 5)
+    (point (F .ρc) ⊠ expOver (plusOver Θ L (F .vapourTerms) (estimateAtOver Θ L (F .vapourTerms) 0) 1 4))
+
+abbrev InThree : Fluid → Float → Three → Type 0
+InThree F t (three p l v) = In p (pressureEstimate F t) × In l (liquidEstimate F t) × In v (vapourEstimate F t)
+
+estimates-in : {Ts Θ L : Interval} (F : Fluid) (t : Float) → In Ts t → In Θ (thetaOf F t) → (eq (thetaOf F t) (real 0) ≡ false → In L (lnOf (thetaOf F t))) → InThree F t (estimatesOver F Ts Θ L)
+unfolding estimatesOver pressureEstimate liquidEstimate vapourEstimate
+estimates-in F t a h w = simp forced (
+  at (F .pc) ⟨⊗⟩ ⟨exp⟩ ((at (F .Tc) ⟨⊘⟩ a) ⟨⊗⟩ plus-in h w (F .pressureTerms) (term-at-in h w (F .pressureTerms) 0) 1 3),
+  at (F .ρc) ⟨⊗⟩ plus-in h w (F .liquidTerms) (at (real 1)) 0 5,
+  at (F .ρc) ⟨⊗⟩ ⟨exp⟩ (plus-in h w (F .vapourTerms) (term-at-in h w (F .vapourTerms) 0) 1 4),
+)
+
+-- ---- θ is 0 or at least 2⁻⁵⁴
+squash-here : (x : Float) → T (finite (squash x)) → squash x ≡ x
+squash-here (fin s m e) t = refl
+
+difference-is : (x y : Float) → T (finite (x ⊖ y)) → x ⊖ y ≡ add binary64 x (neg y)
+unfolding _⊖_ sub
+difference-is x y t = squash-here (add binary64 x (neg y)) t
+
+neg-finite : (x : Float) → T (finite x) → T (finite (neg x))
+unfolding neg
+neg-finite (fin s m e) t = tt
+
+one-large : Large 0 (real 1)
+unfolding ofInt round
+one-large = lit≤ tt
+
+one-whole : den (real 1) ≤ 2 ^ 0
+unfolding ofInt round
+one-whole = lit≤ tt
+
+finite-one : T (finite (real 1))
+unfolding ofInt round
+finite-one = tt
+
+finite-two⁻54 : T (finite (two⁻ 54))
+unfolding round
+finite-two⁻54 = tt
+
+negative : le (real 0) (neg (two⁻ 54)) ≡ false
+unfolding ofInt round neg le lt eq
+negative = refl
+
+-- 0 by both orders is 0 by the test
+both-zero : (x : Float) → T (le x (real 0)) → T (le (real 0) x) → eq x (real 0) ≡ true
+unfolding le
+both-zero x a b = go (lt x (real 0)) (eq x (real 0)) a (tests.not-lt-of-le (real 0) x (unfold le in is-true (le (real 0) x) b))
+  where
+    go : (l e : Bool) → T (l || e) → l ≡ false → e ≡ true
+    go true e t p = absurd (subst T p tt)
+    go false true t p = refl
+    go false false t p = absurd t
+
+one-less : (x : Float) → T (fits binary64 x) → T (finite x) → T (finite (real 1 ⊖ x)) → T (le (real 0) (real 1 ⊖ x)) → eq (real 1 ⊖ x) (real 0) ≡ false → T (le (two⁻ 54) (real 1 ⊖ x))
+one-less x f p q above not-zero =
+    let e = difference-is (real 1) x q in
+    let r = add binary64 (real 1) (neg x) in
+    let m = neg-finite x p in
+    elim (sum-apart (real 1) (neg x) finite-one m 0 0 (neg-fits binary64 x f) one-large one-whole) [
+      | inl z ↦
+          let (a, b) = zero-rounds (real 1) (neg x) finite-one m z in
+          absurd (subst T (sym (both-zero r a b) ∙ ap (λ (y : Float). eq y (real 0)) (sym e) ∙ not-zero) tt)
+      | inr (inl t) ↦ subst (λ (y : Float). T (le (two⁻ 54) y)) (sym e) t
+      | inr (inr t) ↦
+          absurd (subst T negative (holds (le (real 0) (neg (two⁻ 54)))
+          (tests.le-trans (real 0) r (neg (two⁻ 54)) (is-true (le (real 0) r) (subst (λ (y : Float). T (le (real 0) y)) e above)) (is-true (le r (neg (two⁻ 54))) t))))
+    ]
+
+-- ---- the computed test of an entry
+abbrev pub belowCritical : Fluid → Interval
+belowCritical F = interval (F .leastT) (F .Tc)
+
+abbrev pub quotients : Fluid → Interval
+quotients F = belowCritical F ÷ point (F .Tc)
+
+abbrev pub thetas : Fluid → Interval
+thetas F = point (real 1) ⊟ quotients F
+
+abbrev threeKnown : Three → Bool
+threeKnown (three p l v) = known p && (known l && known v)
+
+unfoldable pub estimatesKnown : Fluid → Bool
+estimatesKnown F = thetas F ▶ λ Θ. lnOver (fromOn (two⁻ 54) Θ) ▶ λ L. threeKnown (estimatesOver F (belowCritical F) Θ L)
+
+abbrev pub estimateEnds : Fluid → Bool
+estimateEnds F = (finite (F .leastT) && finite (F .Tc)) && (known (quotients F) && lies (real 0) (thetas F) (real 1))
+
+finite-zero : T (finite (real 0))
+unfolding ofInt round
+finite-zero = tt
+
+three-finite : (F : Fluid) (t : Float) (Z : Three) → T (threeKnown Z) → InThree F t Z → T (finite (pressureEstimate F t)) × T (finite (liquidEstimate F t)) × T (finite (vapourEstimate F t))
+three-finite F t (three (ends _ _) (ends _ _) (ends _ _)) k (p, l, v) = (in-known tt p, in-known tt l, in-known tt v)
+
+module _ (F : Fluid) (fine : T (estimateEnds F)) (ok : T (estimatesKnown F)) (t : Float) where
+  ends-tested : T (finite (F .leastT) && finite (F .Tc)) × T (known (quotients F)) × T (lies (real 0) (thetas F) (real 1))
+  ends-tested =
+      let rest = and-r (finite (F .leastT) && finite (F .Tc)) (known (quotients F) && lies (real 0) (thetas F) (real 1)) fine in (
+        and-l (finite (F .leastT) && finite (F .Tc)) (known (quotients F) && lies (real 0) (thetas F) (real 1)) fine,
+        and-l (known (quotients F)) (lies (real 0) (thetas F) (real 1)) rest,
+        and-r (known (quotients F)) (lies (real 0) (thetas F) (real 1)) rest,
+      )
+
+  pub estimates-finite : T (le (F .leastT) t) → T (le t (F .Tc)) → T (finite (pressureEstimate F t)) × T (finite (liquidEstimate F t)) × T (finite (vapourEstimate F t))
+  unfolding estimatesKnown thetaOf
+  estimates-finite low high =
+      let a = tested (F .leastT) (F .Tc) t (and-l (finite (F .leastT)) (finite (F .Tc)) (ends-tested .0)) (and-r (finite (F .leastT)) (finite (F .Tc)) (ends-tested .0)) low high in
+      let x = a ⟨⊘⟩ at (F .Tc) in
+      let h = at (real 1) ⟨⊖⟩ x in
+      let (above, below) = lies-in (real 0) (real 1) finite-zero finite-one (ends-tested .2) h in
+      three-finite F t (estimatesOver F (belowCritical F) (thetas F) (lnOver (fromOn (two⁻ 54) (thetas F)))) (simp computed at ok)
+      (estimates-in F t a h (λ e.
+      ⟨ln⟩ (difference-fits (real 1) (t ⊘ F .Tc))
+      (from-on-in (two⁻ 54) (real 1 ⊖ t ⊘ F .Tc) finite-two⁻54
+      (one-less (t ⊘ F .Tc) (quotient-fits t (F .Tc)) (in-known (ends-tested .1) x) (between-finite (real 0) (real 1 ⊖ t ⊘ F .Tc) (real 1) finite-zero finite-one above below) above e) h)))
+
+  -- ---- the calls
+  saturation-granted : saturationPermit F t ≡ Granted → T (le (F .leastT) t) × T (le t (F .Tc))
+  unfolding saturationPermit
+  saturation-granted p =
+      let last = firstOf ((le t (F .Tc), AboveCritical) ∷ []) in
+      let inner = firstOf ((between (F .leastT) t (F .greatestT), TemperatureOutside) ∷ (le t (F .Tc), AboveCritical) ∷ []) in
+      let q = rest-granted (finite t) inner InputNotFinite p in (
+        and-l (le (F .leastT) t) (le t (F .greatestT)) (holds (between (F .leastT) t (F .greatestT)) (test-passed _ last TemperatureOutside q)),
+        holds (le t (F .Tc)) (test-passed _ Granted AboveCritical (rest-granted (between (F .leastT) t (F .greatestT)) last TemperatureOutside q)),
+      )
+
+  saturation-denied : saturationPermit F t ≡ Denied WorkNotFinite → ⊥
+  unfolding saturationPermit
+  saturation-denied = never-denied ((finite t, InputNotFinite) ∷ (between (F .leastT) t (F .greatestT), TemperatureOutside) ∷ (le t (F .Tc), AboveCritical) ∷ []) tt
+
+  granted-finite : saturationPermit F t ≡ Granted → T (finite (pressureEstimate F t)) × T (finite (liquidEstimate F t)) × T (finite (vapourEstimate F t))
+  granted-finite g = let (low, high) = saturation-granted g in estimates-finite low high
+
+  pub saturation-pressure-never-12 : saturationPressureOf F t ≡ Refused WorkNotFinite → ⊥
+  unfolding saturationPressureOf
+  saturation-pressure-never-12 = never-12 (saturationPermit F t) (pressureEstimate F t) saturation-denied (λ g. granted-finite g .0)
+
+  pub saturated-liquid-never-12 : saturatedLiquidOf F t ≡ Refused WorkNotFinite → ⊥
+  unfolding saturatedLiquidOf
+  saturated-liquid-never-12 = never-12 (saturationPermit F t) (liquidEstimate F t) saturation-denied (λ g. granted-finite g .1)
+
+  pub saturated-vapour-never-12 : saturatedVapourOf F t ≡ Refused WorkNotFinite → ⊥
+  unfolding saturatedVapourOf
+  saturated-vapour-never-12 = never-12 (saturationPermit F t) (vapourEstimate F t) saturation-denied (λ g. granted-finite g .2)
