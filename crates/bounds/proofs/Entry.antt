@@ -1,5 +1,6 @@
--- A fluid's entry passes one computed test, its whole range worked as one interval, and then no value of V, K, Q and the seven
--- properties is anything but finite in that range; the three with ln δ where δ is not under 2⁻⁶⁰.
+-- A fluid's entry passes one computed test, its whole range worked as one interval, and then no value of V, K, Q and the
+-- properties is anything but finite in that range: isobaric heat capacity where Q is not under 2⁻²¹⁵, and the three with ln δ where δ is not
+-- under 2⁻⁶⁰.
 use mathlib.Core.Path.{_≡_}
 use mathlib.Core.Bool.{Bool, true, false, _&&_}
 use lib.Dec.{T}
@@ -8,7 +9,7 @@ use lib.Ieee.Fits.{and-l, and-r}
 use lib.Ieee.Scale.{finite}
 use Rattle.arithmetic.specs.Checked.{real, two⁻, between}
 use Rattle.fluids.specs.Fluid.{Fluid}
-use Rattle.equation.specs.Values.{δ, «V», K, Q, pressureValue, energyValue, enthalpyValue, isochoricValue, entropyValue, gibbsValue, helmholtzValue}
+use Rattle.equation.specs.Values.{δ, «V», K, Q, pressureValue, energyValue, enthalpyValue, isochoricValue, entropyValue, gibbsValue, helmholtzValue, isobaricValue}
 use Rattle.bounds.proofs.Fractions.{between-finite}
 use Rattle.bounds.proofs.Interval.{Interval, ends, In, interval, tested, point, at, known, in-known}
 use Rattle.bounds.proofs.Quotient.{_÷_, _⟨⊘⟩_}
@@ -22,7 +23,7 @@ abbrev pub densities : Fluid → Interval
 densities F = interval (real 0) (F .greatestρ)
 
 abbrev allKnown : State → Bool
-allKnown (state p e h c v k q f g s) = known p && (known e && (known h && (known c && (known v && (known k && (known q && (known f && (known g && known s))))))))
+allKnown (state p e h c v k q cp f g s) = known p && (known e && (known h && (known c && (known v && (known k && (known q && (known cp && (known f && (known g && known s)))))))))
 
 abbrev reducedDensities : Fluid → Interval
 reducedDensities F = densities F ÷ point (F .ρc)
@@ -41,23 +42,25 @@ pub record Finite (F : Fluid) (t r : Float) : Type 0 where
   pub energy : T (finite (energyValue F t r))
   pub enthalpy : T (finite (enthalpyValue F t r))
   pub isochoric : T (finite (isochoricValue F t r))
-  pub «V» : T (finite («V» F t r))
-  pub K : T (finite (K F t r))
-  pub Q : T (finite (Q F t r))
+  pub v : T (finite («V» F t r))
+  pub k : T (finite (K F t r))
+  pub q : T (finite (Q F t r))
+  pub isobaric : T (le (two⁻ 215) (Q F t r)) → T (finite (isobaricValue F t r))
   pub helmholtz : T (le (two⁻ 60) (δ F t r)) → T (finite (helmholtzValue F t r))
   pub gibbs : T (le (two⁻ 60) (δ F t r)) → T (finite (gibbsValue F t r))
   pub entropy : T (le (two⁻ 60) (δ F t r)) → T (finite (entropyValue F t r))
 
 all-finite : (F : Fluid) (t r : Float) (S : State) → T (allKnown S) → T (finite (δ F t r)) → InState F t r S → Finite F t r
-all-finite F t r (state (ends _ _) (ends _ _) (ends _ _) (ends _ _) (ends _ _) (ends _ _) (ends _ _) (ends _ _) (ends _ _) (ends _ _)) ok d (p, e, h, c, v, k, q, rest) = record {
+all-finite F t r (state (ends _ _) (ends _ _) (ends _ _) (ends _ _) (ends _ _) (ends _ _) (ends _ _) (ends _ _) (ends _ _) (ends _ _) (ends _ _)) ok d (p, e, h, c, v, k, q, cp, rest) = record {
   reduced = d;
   pressure = in-known tt p;
   energy = in-known tt e;
   enthalpy = in-known tt h;
   isochoric = in-known tt c;
-  «V» = in-known tt v;
-  K = in-known tt k;
-  Q = in-known tt q;
+  v = in-known tt v;
+  k = in-known tt k;
+  q = in-known tt q;
+  isobaric = λ z. in-known tt (cp z);
   helmholtz = λ z. in-known tt (rest z .0);
   gibbs = λ z. in-known tt (rest z .1);
   entropy = λ z. in-known tt (rest z .2);

@@ -32,7 +32,7 @@ use Rattle.bounds.proofs.Product.{_⊠_, _⟨⊗⟩_}
 use Rattle.bounds.proofs.Quotient.{_÷_, _⟨⊘⟩_}
 use Rattle.bounds.proofs.Functions.{expOver, ⟨exp⟩, powerOver, ⟨power⟩}
 use Rattle.bounds.proofs.Logarithm.{lnOver, ⟨ln⟩}
-use Rattle.bounds.proofs.State.{quotient-fits, difference-fits}
+use Rattle.bounds.proofs.Representable.{quotient-fits, difference-fits}
 use Rattle.bounds.proofs.Cancellation.{Large, ExactlyZero, sum-apart, zero-rounds}
 use Rattle.bounds.proofs.Permits.{never-denied, never-12}
 

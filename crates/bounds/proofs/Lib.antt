@@ -1,6 +1,7 @@
 pub mod Fractions
 pub mod Rounding
 pub mod Interval
+pub mod Representable
 pub mod Sum
 pub mod Product
 pub mod Quotient
@@ -19,3 +20,4 @@ pub mod Searches
 pub mod AmongNumbers
 pub mod Elementary
 pub mod Potentials
+pub mod Stable

@@ -4,7 +4,10 @@ use mathlib.Core.List.{List, [], _∷_, map}
 use Prim.Native.Nat.{ℕ, zero, suc, _<_, _≤_}
 use native.Mathlib.Nat.{not-suc-le-zero, le-of-suc-le-suc, le-of-lt, le-refl}
 use lib.ListN.{getD, length}
-use lib.Ieee.{Float, nan}
+use lib.Dec.{T}
+use lib.IntN.{pos}
+use lib.Ieee.{Float, nan, binary64, fits}
+use lib.Ieee.Fits.{ofInt-fits}
 use Rattle.arithmetic.specs.Checked.{real, squash, minus, _⊕_, _⊖_, _⊗_, _⊘_}
 use Rattle.arithmetic.specs.Exp.{expOf}
 use Rattle.arithmetic.specs.Ln.{lnOf}
@@ -15,11 +18,13 @@ use Rattle.fluids.specs.declared.Term.{Term}
 use Rattle.fluids.specs.declared.Term.the-variants.{Plain, Damped, Bell}
 use Rattle.fluids.specs.Fluid.{Fluid}
 use Rattle.equation.specs.declared.rows.Row.{Row}
+use Rattle.equation.specs.declared.kept.Kept.{Kept}
 use Rattle.equation.specs.declared.sums.Sums.{Sums}
 use Rattle.equation.specs.Rows.{exponentOf, powerAt, bellAt, xAt, rowAt}
 use Rattle.equation.specs.Sums.{rowFirst, sumsFirst, noSums, addRow, rowOf, sumsTo}
 use Rattle.equation.specs.Kept.{keptOf, sumsAt}
 use Rattle.bounds.proofs.Interval.{Interval, In, point, at, squash-in, _▶_, computed}
+use Rattle.bounds.proofs.Representable.{sum-fits}
 use Rattle.bounds.proofs.Sum.{_⊞_, _⊟_, negated, _⟨⊕⟩_, _⟨⊖⟩_, ⟨minus⟩}
 use Rattle.bounds.proofs.Product.{_⊠_, _⟨⊗⟩_}
 use Rattle.bounds.proofs.Functions.{expOver, ⟨exp⟩, _⇈_, ⟨↑⟩}
@@ -202,13 +207,23 @@ s1-to-in rows d u y (suc i) h powers bells p q =
 unfoldable pub sumsOver : Fluid → Interval → Interval → Interval → SumsOver
 sumsOver F Δ Θ Y = sumsToOver Δ Θ Y (F .rows) (length (F .rows))
 
-pub sums-in : {Δ Θ Y : Interval} {δ : Float} (F : Fluid) (T : Float) → In Δ δ → In Θ (F .Tc ⊘ T) → In Y (lnOf (F .Tc ⊘ T)) → InSums (sumsOver F Δ Θ Y) (sumsAt F (keptOf F T) δ)
+pub sums-in : {Δ Θ Y : Interval} {δ : Float} (F : Fluid) (t : Float) → In Δ δ → In Θ (F .Tc ⊘ t) → In Y (lnOf (F .Tc ⊘ t)) → InSums (sumsOver F Δ Θ Y) (sumsAt F (keptOf F t) δ)
 unfolding sumsOver sumsAt keptOf
-sums-in F T d u y = simp (forced, ⊘-squashed) (sums-to-in (F .rows) (squash-in d) u y (length (F .rows)) (le-refl _) _ _ refl refl)
+sums-in F t d u y = simp (forced, ⊘-squashed) (sums-to-in (F .rows) (squash-in d) u y (length (F .rows)) (le-refl _) _ _ refl refl)
 
 unfoldable pub s1Over : Fluid → Interval → Interval → Interval → Interval
 s1Over F Δ Θ Y = s1ToOver Δ Θ Y (F .rows) (length (F .rows))
 
-pub s1-in : {Δ Θ Y : Interval} {δ : Float} (F : Fluid) (T : Float) → In Δ δ → In Θ (F .Tc ⊘ T) → In Y (lnOf (F .Tc ⊘ T)) → In (s1Over F Δ Θ Y) (sumsAt F (keptOf F T) δ .s1)
+pub s1-in : {Δ Θ Y : Interval} {δ : Float} (F : Fluid) (t : Float) → In Δ δ → In Θ (F .Tc ⊘ t) → In Y (lnOf (F .Tc ⊘ t)) → In (s1Over F Δ Θ Y) (sumsAt F (keptOf F t) δ .s1)
 unfolding s1Over sumsAt keptOf
-s1-in F T d u y = simp (forced, ⊘-squashed) (s1-to-in (F .rows) (squash-in d) u y (length (F .rows)) (le-refl _) _ _ refl refl)
+s1-in F t d u y = simp (forced, ⊘-squashed) (s1-to-in (F .rows) (squash-in d) u y (length (F .rows)) (le-refl _) _ _ refl refl)
+
+-- S2 is a binary64
+s2-to-fits : (δ τ : Float) (rows : List Term) (powers bells : List Float) (i : ℕ) → T (fits binary64 (sumsTo δ τ rows powers bells i .s2))
+unfolding sumsTo
+s2-to-fits δ τ rows powers bells zero = ofInt-fits binary64 (pos 0)
+s2-to-fits δ τ rows powers bells (suc i) = simp (sums-forced, row-forced) (sum-fits _ _)
+
+pub s2-fits : (F : Fluid) (k : Kept) (δ : Float) → T (fits binary64 (sumsAt F k δ .s2))
+unfolding sumsAt
+s2-fits F k δ = s2-to-fits _ _ (F .rows) _ _ (length (F .rows))

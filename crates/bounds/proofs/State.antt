@@ -1,13 +1,11 @@
--- What is worked at a state, over intervals of T, ρ and δ, for any fluid: the ideal part, V, K, Q, and the seven properties that divide by
--- nothing but the temperature.
+-- What is worked at a state, over intervals of T, ρ and δ, for any fluid: the ideal part, V, K, Q, and every property but sound speed.
 use mathlib.Core.Path.{_≡_, refl}
 use mathlib.Core.Bool.{Bool, true, false, _&&_}
 use mathlib.Core.List.{List}
 use Prim.Native.Nat.{ℕ, zero, suc}
 use lib.Dec.{T}
 use lib.ListN.{getD, length}
-use lib.Ieee.{Float, nan, inf, fin, binary64, round, fits, le, div, sub}
-use lib.Ieee.Fits.{div-fits, sub-fits}
+use lib.Ieee.{Float, nan, binary64, round, fits, le}
 use lib.Ieee.Scale.{finite}
 use Rattle.arithmetic.specs.Checked.{real, _e-_, two⁻, squash, minus, _⊕_, _⊖_, _⊗_, _⊘_}
 use Rattle.arithmetic.specs.Exp.{expOf}
@@ -19,7 +17,8 @@ use Rattle.fluids.specs.Fluid.{Fluid}
 use Rattle.equation.specs.declared.sums.Sums.{Sums}
 use Rattle.equation.specs.Ideal.{part0, part1, part2, totalTo, I0, I1, I2}
 use Rattle.equation.specs.Kept.{keptOf, pressureAt}
-use Rattle.equation.specs.Values.{τ, δ, sums, i0, i1, «V», K, Q, pressureValue, energyValue, enthalpyValue, isochoricValue, entropyValue, gibbsValue, helmholtzValue}
+use Rattle.equation.specs.Values.{τ, δ, sums, i0, i1, «V», K, Q, pressureValue, energyValue, enthalpyValue, isochoricValue, entropyValue, gibbsValue, helmholtzValue, isobaricValue}
+use Rattle.bounds.proofs.Representable.{difference-fits, quotient-fits}
 use Rattle.bounds.proofs.Interval.{Interval, In, point, at, fromOn, from-on-in, _▶_, computed}
 use Rattle.bounds.proofs.Sum.{_⊞_, _⊟_, negated, _⟨⊕⟩_, _⟨⊖⟩_, ⟨minus⟩}
 use Rattle.bounds.proofs.Product.{_⊠_, _⟨⊗⟩_}
@@ -27,20 +26,6 @@ use Rattle.bounds.proofs.Quotient.{_÷_, _⟨⊘⟩_}
 use Rattle.bounds.proofs.Functions.{expOver, ⟨exp⟩}
 use Rattle.bounds.proofs.Logarithm.{lnOver, ⟨ln⟩}
 use Rattle.bounds.proofs.Rows.{SumsOver, six, InSums, sumsOver, sums-in}
-
--- ---- what an operation gives is a binary64
-squash-fits : (x : Float) → T (fits binary64 x) → T (fits binary64 (squash x))
-squash-fits nan t = t
-squash-fits (inf s) t = unfold fits in tt
-squash-fits (fin s m e) t = t
-
-pub quotient-fits : (x y : Float) → T (fits binary64 (x ⊘ y))
-unfolding _⊘_
-quotient-fits x y = squash-fits (div binary64 x y) (div-fits binary64 x y)
-
-pub difference-fits : (x y : Float) → T (fits binary64 (x ⊖ y))
-unfolding _⊖_
-difference-fits x y = squash-fits (sub binary64 x y) (sub-fits binary64 x y)
 
 -- ---- the ideal part's sums
 unfoldable pub part0Over : Interval → Pair → Interval
@@ -110,21 +95,28 @@ module _ {Θ U : Interval} (F : Fluid) (t : Float) (a : In Θ t) (u : In U (F .T
   I2-in = c-in ⟨⊕⟩ total-in (part2Over Θ) (part2 t) (part2-in a) (F .pairs) (length (F .pairs))
 
 -- ---- a state
+finite-two⁻215 : T (finite (two⁻ 215))
+unfolding round
+finite-two⁻215 = tt
+
 pub data State : Type 0 where
-  state : (pressure energy enthalpy isochoric V' K' Q' helmholtz gibbs entropy : Interval) → State
+  state : (pressure energy enthalpy isochoric V' K' Q' isobaric helmholtz gibbs entropy : Interval) → State
 
 unfoldable pub finished : Fluid → Interval → Interval → SumsOver → Interval → Interval → Interval → State
 finished F Θ Ρ (six S0 S1 S2 T1 T2 ST) J0 J1 J2 =
     point (F .R) ⊠ Θ ▶ λ RT.
     J2 ⊟ T2 ▶ λ V'.
+    point (real 1) ⊞ S1 ⊟ ST ▶ λ K'.
+    point (real 1) ⊞ point (real 2) ⊠ S1 ⊞ S2 ▶ λ Q'.
     state
     (((Ρ ⊠ point (real 1000)) ⊠ RT) ⊠ (point (real 1) ⊞ S1))
     (RT ⊠ (J1 ⊞ T1))
     (RT ⊠ (J1 ⊞ T1 ⊞ S1 ⊞ point (real 1)))
     (point (F .R) ⊠ V')
     V'
-    (point (real 1) ⊞ S1 ⊟ ST)
-    (point (real 1) ⊞ point (real 2) ⊠ S1 ⊞ S2)
+    K'
+    Q'
+    (point (F .R) ⊠ (V' ⊞ K' ⊠ K' ÷ fromOn (two⁻ 215) Q'))
     (RT ⊠ (J0 ⊞ S0))
     (RT ⊠ (point (real 1) ⊞ J0 ⊞ S0 ⊞ S1))
     (point (F .R) ⊠ (J1 ⊞ T1 ⊟ J0 ⊟ S0))
@@ -148,29 +140,33 @@ module _ (F : Fluid) (t r : Float) where
   unfolding pressureValue pressureAt sums δ
   pressure-is = simp kept-temperature
 
-  -- 12 is owed by the last three where δ is under 2⁻⁶⁰
+  -- isobaric heat capacity where Q is not under 2⁻²¹⁵, and the three with ln δ where δ is not under 2⁻⁶⁰
   abbrev pub InState : State → Type 0
-  InState (state p e h c v k q f g s) =
+  InState (state p e h c v k q cp f g s) =
       In p (pressureValue F t r) × In e (energyValue F t r) × In h (enthalpyValue F t r) × In c (isochoricValue F t r)
       × In v («V» F t r) × In k (K F t r) × In q (Q F t r)
+      × (T (le (two⁻ 215) (Q F t r)) → In cp (isobaricValue F t r))
       × (T (le (two⁻ 60) (δ F t r)) → In f (helmholtzValue F t r) × In g (gibbsValue F t r) × In s (entropyValue F t r))
 
   module _ {Θ Ρ : Interval} (a : In Θ t) (b : In Ρ r) where
     finished-in : (S : SumsOver) {J0 J1 J2 : Interval} → InSums S (sums F t r) → (T (le (two⁻ 60) (δ F t r)) → In J0 (i0 F t r)) → In J1 (i1 F t r) → In J2 (I2 F t)
         → InState (finished F Θ Ρ S J0 J1 J2)
-    unfolding finished energyValue enthalpyValue isochoricValue «V» K Q helmholtzValue gibbsValue entropyValue
+    unfolding finished energyValue enthalpyValue isochoricValue «V» K Q isobaricValue helmholtzValue gibbsValue entropyValue
     finished-in (six S0 S1 S2 T1 T2 ST) (s0, s1, s2, t1, t2, st) j0 j1 j2 =
         let rt = at (F .R) ⟨⊗⟩ a in
         let one = at (real 1) in
         let v = j2 ⟨⊖⟩ t2 in
+        let k = one ⟨⊕⟩ s1 ⟨⊖⟩ st in
+        let q = one ⟨⊕⟩ at (real 2) ⟨⊗⟩ s1 ⟨⊕⟩ s2 in
         simp (computed, pressure-is) (
           ((b ⟨⊗⟩ at (real 1000)) ⟨⊗⟩ rt) ⟨⊗⟩ (one ⟨⊕⟩ s1),
           rt ⟨⊗⟩ (j1 ⟨⊕⟩ t1),
           rt ⟨⊗⟩ (j1 ⟨⊕⟩ t1 ⟨⊕⟩ s1 ⟨⊕⟩ one),
           at (F .R) ⟨⊗⟩ v,
           v,
-          one ⟨⊕⟩ s1 ⟨⊖⟩ st,
-          one ⟨⊕⟩ at (real 2) ⟨⊗⟩ s1 ⟨⊕⟩ s2,
+          k,
+          q,
+          (λ h. at (F .R) ⟨⊗⟩ (v ⟨⊕⟩ k ⟨⊗⟩ k ⟨⊘⟩ from-on-in (two⁻ 215) _ finite-two⁻215 h q)),
           λ h. (
             rt ⟨⊗⟩ (j0 h ⟨⊕⟩ s0),
             rt ⟨⊗⟩ (one ⟨⊕⟩ j0 h ⟨⊕⟩ s0 ⟨⊕⟩ s1),

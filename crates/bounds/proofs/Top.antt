@@ -17,7 +17,8 @@ use Rattle.bounds.proofs.Product.{_⊠_, _⟨⊗⟩_}
 use Rattle.bounds.proofs.Quotient.{_÷_, _⟨⊘⟩_}
 use Rattle.bounds.proofs.Logarithm.{lnOver, ⟨ln⟩}
 use Rattle.bounds.proofs.Rows.{s1Over, s1-in}
-use Rattle.bounds.proofs.State.{quotient-fits, pressure-is}
+use Rattle.bounds.proofs.State.{pressure-is}
+use Rattle.bounds.proofs.Representable.{quotient-fits}
 
 -- ---- the pressure alone
 unfoldable pub pressureOver : Fluid → Interval → Interval → Interval
