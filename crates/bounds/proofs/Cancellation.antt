@@ -51,6 +51,10 @@ denominator k (fin s (suc m) (negsuc e)) f t h =
 tiny-rounds : (j : ℕ) → Rounds binary64 (two⁻ j) 1 0 (2 ^ j)
 tiny-rounds j = rounds-up binary64 (two⁻ j) 1 1 0 (2 ^ j) refl refl
 
+zero-is : Rounds binary64 (real 0) 0 0 1
+unfolding ofInt
+zero-is = rounds-up binary64 (real 0) 0 0 0 1 refl refl
+
 -- r is 2⁻ʲ at least, or −2⁻ʲ at most
 abbrev pub Apart : ℕ → Float → Type 0
 Apart j r = T (le (two⁻ j) r) ⊎ T (le r (neg (two⁻ j)))
@@ -111,36 +115,64 @@ small-beside k (fin true m e) y p q h g =
     inr (below-tiny (add binary64 x y) _ _ (den x * den y) (suc k) (mul-pos (den-pos x) (den-pos y)) (sum-rounds binary64 x y p q)
     (rw pow-suc (dominated (2 ^ k) (num x) (den x) (den y) (plus y) (less y) (num y) h (rw pow-suc at g) (sum-of-parts y .0))))
 
-zero-is : Rounds binary64 (real 0) 0 0 1
-unfolding ofInt
-zero-is = rounds-up binary64 (real 0) 0 0 0 1 refl refl
+-- 0 by both orders, and so by the test
+abbrev pub Zero : Float → Type 0
+Zero r = T (le r (real 0)) × T (le (real 0) r)
 
--- ---- the sum of x, |x| ≥ 2⁻ᵏ with a denominator up to 2ᵈ, and any binary64 is exactly 0 or apart from it
+pub zero-test : (r : Float) → Zero r → eq r (real 0) ≡ true
+unfolding le
+zero-test r (a, b) = go (lt r (real 0)) (eq r (real 0)) a (tests.not-lt-of-le (real 0) r (unfold le in is-true (le (real 0) r) b))
+  where
+    go : (l e : Bool) → T (l || e) → l ≡ false → e ≡ true
+    go true e t p = absurd (subst T p tt)
+    go false true t p = refl
+    go false false t p = absurd t
+
+-- ---- the sum of x, |x| ≥ 2⁻ᵏ with a denominator up to 2ᵈ, and any binary64 is 0 or apart from it
 module _ (x y : Float) (p : T (finite x)) (q : T (finite y)) where
-  abbrev pub ExactlyZero : Type 0
-  ExactlyZero = plus x * den y + plus y * den x ≡ less x * den y + less y * den x
+  abbrev positives : ℕ
+  positives = plus x * den y + plus y * den x
 
-  pub sum-apart : (k d : ℕ) → T (fits binary64 y) → Large k x → den x ≤ 2 ^ d → ExactlyZero ⊎ Apart (d + (k + 54)) (add binary64 x y)
-  sum-apart k d f h g = by-size (leb (den y) (2 ^ suc k * num y)) (leb→le (den y) (2 ^ suc k * num y)) (nleb→lt (den y) (2 ^ suc k * num y))
-    where
-      both-large : den y ≤ 2 ^ suc k * num y → ExactlyZero ⊎ Apart (d + (k + 54)) (add binary64 x y)
-      both-large l =
-          let c : den x * den y ≤ 2 ^ (d + (k + 54)) =
-          let s : den y ≤ 2 ^ (k + 54) = le-trans (denominator (suc k) y f q l) (le-of-eq (ap (λ (z : ℕ). 2 ^ z) (omega arith))) in
-          rw (pow-add 2 d (k + 54)) (mul-le-mul g s) in
-          by-zero c (eqb (plus x * den y + plus y * den x) (less x * den y + less y * den x)) (eqb→eq (plus x * den y + plus y * den x) (less x * den y + less y * den x)) (neqb→ne (plus x * den y + plus y * den x) (less x * den y + less y * den x))
-        where
-          by-zero : den x * den y ≤ 2 ^ (d + (k + 54)) → (b : Bool) → (T b → ExactlyZero) → ((T b → ⊥) → ExactlyZero → ⊥) → ExactlyZero ⊎ Apart (d + (k + 54)) (add binary64 x y)
-          by-zero c true z n = inl (z tt)
-          by-zero c false z n = inr (not-equal-apart (add binary64 x y) _ _ (den x * den y) (d + (k + 54)) (mul-pos (den-pos x) (den-pos y)) (sum-rounds binary64 x y p q) c (n (λ t. t)))
+  abbrev negatives : ℕ
+  negatives = less x * den y + less y * den x
 
-      by-size : (b : Bool) → (T b → den y ≤ 2 ^ suc k * num y) → (T (not b) → 2 ^ suc k * num y < den y) → ExactlyZero ⊎ Apart (d + (k + 54)) (add binary64 x y)
-      by-size true l s = both-large (l tt)
-      by-size false l s = inr (less-apart (suc k) (d + (k + 54)) (omega arith) (add binary64 x y) (small-beside k x y p q h (le-of-lt (s tt))))
-
-  -- an exact 0 is rounded to 0
-  pub zero-rounds : ExactlyZero → T (le (add binary64 x y) (real 0)) × T (le (real 0) (add binary64 x y))
+  zero-rounds : positives ≡ negatives → Zero (add binary64 x y)
   zero-rounds e = (
     rounds-mono binary64 (add binary64 x y) (real 0) _ _ _ 0 0 1 (mul-pos (den-pos x) (den-pos y)) (lit< tt) (sum-rounds binary64 x y p q) zero-is (omega (arith, e)),
     rounds-mono binary64 (real 0) (add binary64 x y) 0 0 1 _ _ _ (lit< tt) (mul-pos (den-pos x) (den-pos y)) zero-is (sum-rounds binary64 x y p q) (omega (arith, e)),
   )
+
+  small-product : (j : ℕ) → den x * den y ≤ 2 ^ j → Zero (add binary64 x y) ⊎ Apart j (add binary64 x y)
+  small-product j c = go (eqb positives negatives) (eqb→eq positives negatives) (neqb→ne positives negatives)
+    where
+      go : (b : Bool) → (T b → positives ≡ negatives) → ((T b → ⊥) → positives ≡ negatives → ⊥) → Zero (add binary64 x y) ⊎ Apart j (add binary64 x y)
+      go true z n = inl (zero-rounds (z tt))
+      go false z n = inr (not-equal-apart (add binary64 x y) positives negatives (den x * den y) j (mul-pos (den-pos x) (den-pos y)) (sum-rounds binary64 x y p q) c (n (λ t. t)))
+
+  pub sum-apart : (k d : ℕ) → T (fits binary64 y) → Large k x → den x ≤ 2 ^ d → Zero (add binary64 x y) ⊎ Apart (d + (k + 54)) (add binary64 x y)
+  sum-apart k d f h g = by-size (leb (den y) (2 ^ suc k * num y)) (leb→le (den y) (2 ^ suc k * num y)) (nleb→lt (den y) (2 ^ suc k * num y))
+    where
+      both-large : den y ≤ 2 ^ suc k * num y → den x * den y ≤ 2 ^ (d + (k + 54))
+      both-large l =
+          let s : den y ≤ 2 ^ (k + 54) = le-trans (denominator (suc k) y f q l) (le-of-eq (ap (λ (z : ℕ). 2 ^ z) (omega arith))) in
+          rw (pow-add 2 d (k + 54)) (mul-le-mul g s)
+
+      by-size : (b : Bool) → (T b → den y ≤ 2 ^ suc k * num y) → (T (not b) → 2 ^ suc k * num y < den y) → Zero (add binary64 x y) ⊎ Apart (d + (k + 54)) (add binary64 x y)
+      by-size true l s = small-product (d + (k + 54)) (both-large (l tt))
+      by-size false l s = inr (less-apart (suc k) (d + (k + 54)) (omega arith) (add binary64 x y) (small-beside k x y p q h (le-of-lt (s tt))))
+
+-- ---- 1 + y is 0 or apart from it by 2⁻⁵⁴
+one-large : Large 0 (real 1)
+unfolding ofInt round
+one-large = lit≤ tt
+
+one-whole : den (real 1) ≤ 2 ^ 0
+unfolding ofInt round
+one-whole = lit≤ tt
+
+finite-one : T (finite (real 1))
+unfolding ofInt round
+finite-one = tt
+
+pub one-apart : (y : Float) → T (finite y) → T (fits binary64 y) → Zero (add binary64 (real 1) y) ⊎ Apart 54 (add binary64 (real 1) y)
+one-apart y q f = sum-apart (real 1) y finite-one q 0 0 f one-large one-whole

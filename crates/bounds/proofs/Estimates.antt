@@ -5,11 +5,10 @@ use mathlib.Core.Logic.{_⊎_, inl, inr}
 use mathlib.Core.Bool.{Bool, true, false, _&&_, _||_}
 use mathlib.Core.List.{List, [], _∷_}
 use Prim.Native.Nat.{ℕ, zero, suc, _+_, _*_, _^_, _≤_}
-use lib.Dec.{T, lit≤}
+use lib.Dec.{T}
 use lib.ListN.{getD}
 use lib.Ieee.{Float, nan, inf, fin, binary64, fits, ofInt, round, le, lt, eq, neg, add, sub}
 use lib.Ieee.Fits.{and-l, and-r, neg-fits}
-use lib.Ieee.Positive.{num, den}
 use lib.Ieee.Scale.{finite}
 use Rattle.refusals.specs.declared.Refusal.the-variants.{InputNotFinite, TemperatureOutside, AboveCritical, WorkNotFinite}
 use Rattle.refusals.specs.declared.Permit.the-variants.{Granted, Denied}
@@ -32,8 +31,8 @@ use Rattle.bounds.proofs.Product.{_⊠_, _⟨⊗⟩_}
 use Rattle.bounds.proofs.Quotient.{_÷_, _⟨⊘⟩_}
 use Rattle.bounds.proofs.Functions.{expOver, ⟨exp⟩, powerOver, ⟨power⟩}
 use Rattle.bounds.proofs.Logarithm.{lnOver, ⟨ln⟩}
-use Rattle.bounds.proofs.Representable.{quotient-fits, difference-fits}
-use Rattle.bounds.proofs.Cancellation.{Large, ExactlyZero, sum-apart, zero-rounds}
+use Rattle.bounds.proofs.Representable.{quotient-fits, difference-fits, difference-is}
+use Rattle.bounds.proofs.Cancellation.{zero-test, one-apart}
 use Rattle.bounds.proofs.Permits.{never-denied, never-12}
 
 -- ---- the terms, where L holds ln θ unless θ is 0
@@ -86,24 +85,9 @@ estimates-in F t a h w = simp forced (
 )
 
 -- ---- θ is 0 or at least 2⁻⁵⁴
-squash-here : (x : Float) → T (finite (squash x)) → squash x ≡ x
-squash-here (fin s m e) t = refl
-
-difference-is : (x y : Float) → T (finite (x ⊖ y)) → x ⊖ y ≡ add binary64 x (neg y)
-unfolding _⊖_ sub
-difference-is x y t = squash-here (add binary64 x (neg y)) t
-
 neg-finite : (x : Float) → T (finite x) → T (finite (neg x))
 unfolding neg
 neg-finite (fin s m e) t = tt
-
-one-large : Large 0 (real 1)
-unfolding ofInt round
-one-large = lit≤ tt
-
-one-whole : den (real 1) ≤ 2 ^ 0
-unfolding ofInt round
-one-whole = lit≤ tt
 
 finite-one : T (finite (real 1))
 unfolding ofInt round
@@ -117,25 +101,12 @@ negative : le (real 0) (neg (two⁻ 54)) ≡ false
 unfolding ofInt round neg le lt eq
 negative = refl
 
--- 0 by both orders is 0 by the test
-both-zero : (x : Float) → T (le x (real 0)) → T (le (real 0) x) → eq x (real 0) ≡ true
-unfolding le
-both-zero x a b = go (lt x (real 0)) (eq x (real 0)) a (tests.not-lt-of-le (real 0) x (unfold le in is-true (le (real 0) x) b))
-  where
-    go : (l e : Bool) → T (l || e) → l ≡ false → e ≡ true
-    go true e t p = absurd (subst T p tt)
-    go false true t p = refl
-    go false false t p = absurd t
-
 one-less : (x : Float) → T (fits binary64 x) → T (finite x) → T (finite (real 1 ⊖ x)) → T (le (real 0) (real 1 ⊖ x)) → eq (real 1 ⊖ x) (real 0) ≡ false → T (le (two⁻ 54) (real 1 ⊖ x))
 one-less x f p q above not-zero =
     let e = difference-is (real 1) x q in
     let r = add binary64 (real 1) (neg x) in
-    let m = neg-finite x p in
-    elim (sum-apart (real 1) (neg x) finite-one m 0 0 (neg-fits binary64 x f) one-large one-whole) [
-      | inl z ↦
-          let (a, b) = zero-rounds (real 1) (neg x) finite-one m z in
-          absurd (subst T (sym (both-zero r a b) ∙ ap (λ (y : Float). eq y (real 0)) (sym e) ∙ not-zero) tt)
+    elim (one-apart (neg x) (neg-finite x p) (neg-fits binary64 x f)) [
+      | inl z ↦ absurd (subst T (sym (zero-test r z) ∙ ap (λ (y : Float). eq y (real 0)) (sym e) ∙ not-zero) tt)
       | inr (inl t) ↦ subst (λ (y : Float). T (le (two⁻ 54) y)) (sym e) t
       | inr (inr t) ↦
           absurd (subst T negative (holds (le (real 0) (neg (two⁻ 54)))

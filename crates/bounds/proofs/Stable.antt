@@ -30,9 +30,9 @@ use Rattle.equation.specs.Values.{δ, sums, «V», K, Q, isobaricValue, soundSp
 use Rattle.equation.specs.Calls.{workedDensity, stableOf, statePermit, stabilityPermit, isobaricOf, soundSpeedOf}
 use Rattle.search.proofs.Tests.{by}
 use Rattle.bounds.proofs.Fractions.{is-true, holds, plus, less, order-of-test}
-use Rattle.bounds.proofs.Representable.{sum-fits, product-fits}
+use Rattle.bounds.proofs.Representable.{sum-fits, product-fits, sum-is, summands-finite}
 use Rattle.bounds.proofs.Rows.{s2-fits}
-use Rattle.bounds.proofs.Cancellation.{Large, Apart, ExactlyZero, denominator, sum-apart, zero-rounds}
+use Rattle.bounds.proofs.Cancellation.{Large, Apart, zero-test, denominator, sum-apart, one-apart}
 use Rattle.bounds.proofs.Elementary.{root-in-range, root-outside}
 use Rattle.bounds.proofs.Entry.{passes, Finite}
 use Rattle.bounds.proofs.Permits.{refused-granted, state-denied}
@@ -63,6 +63,48 @@ both-granted : (p s : Permit) (v : Float) → (p ≡ Denied WorkNotFinite → �
 both-granted Granted s v n m e = let (g, f) = refused-granted s v (m refl) e in (refl, g, f)
 both-granted (Denied r) s v n m e = let same : Denied r ≡ Denied WorkNotFinite = ap Denied (cc) in absurd (n same)
 
+-- ---- how small Q can be
+-- what is apart from 0 by 2⁻⁵⁴ is that large
+finite-two⁻54 : T (finite (two⁻ 54))
+unfolding round
+finite-two⁻54 = tt
+
+finite-minus-two⁻54 : T (finite (neg (two⁻ 54)))
+unfolding round neg
+finite-minus-two⁻54 = tt
+
+apart-large : (x : Float) → T (finite x) → Apart 54 x → Large 54 x
+unfolding round neg
+apart-large (fin true m e) f (inl t) = let h = order-of-test (two⁻ 54) (fin true m e) finite-two⁻54 f t in omega arith
+apart-large (fin false m e) f (inl t) = let h = order-of-test (two⁻ 54) (fin false m e) finite-two⁻54 f t in omega arith
+apart-large (fin true m e) f (inr t) = let h = order-of-test (fin true m e) (neg (two⁻ 54)) f finite-minus-two⁻54 t in omega arith
+apart-large (fin false m e) f (inr t) = let h = order-of-test (fin false m e) (neg (two⁻ 54)) f finite-minus-two⁻54 t in omega arith
+
+not-positive : T (le (neg (two⁻ 215)) (real 0))
+unfolding ofInt round neg le lt eq
+not-positive = tt
+
+-- (1 + x) + s above 0 is 2⁻²¹⁵ at least, unless 1 + x is 0
+q-large : (x s : Float) → T (fits binary64 x) → T (fits binary64 s) → T (finite (real 1 ⊕ x ⊕ s)) → le (real 1 ⊕ x ⊕ s) (real 0) ≡ false → eq (real 1 ⊕ x) (real 0) ≡ false → T (le (two⁻ 215) (real 1 ⊕ x ⊕ s))
+q-large x s fx fs f above not-zero =
+    let a = real 1 ⊕ x in
+    let (fa, ft) = summands-finite a s f in
+    let first = sum-is (real 1) x fa in
+    let whole = sum-is a s f in
+    let refute : T (le (add binary64 a s) (real 0)) → ⊥ = λ t. subst T (ap (λ (y : Float). le y (real 0)) (sym whole) ∙ above) t in
+    elim (one-apart x (summands-finite (real 1) x fa .1) fx) [
+      | inl z ↦ absurd (subst T (sym (zero-test (add binary64 (real 1) x) z) ∙ ap (λ (y : Float). eq y (real 0)) (sym first) ∙ not-zero) tt)
+      | inr far ↦
+          let large = apart-large a fa (subst (Apart 54) (sym first) far) in
+          elim (sum-apart a s fa ft 54 107 fs large (denominator 54 a (sum-fits (real 1) x) fa large)) [
+            | inl z ↦ absurd (refute (z .0))
+            | inr (inl t) ↦ subst (λ (y : Float). T (le (two⁻ 215) y)) (sym whole) t
+            | inr (inr t) ↦
+                absurd (refute (holds (le (add binary64 a s) (real 0))
+                (tests.le-trans (add binary64 a s) (neg (two⁻ 215)) (real 0) (is-true (le (add binary64 a s) (neg (two⁻ 215))) t) (is-true (le (neg (two⁻ 215)) (real 0)) not-positive))))
+          ]
+    ]
+
 module _ (F : Fluid) (ok : T (passes F)) (t ρ : Float) where
   stability-denied : statePermit F t ρ ≡ Granted → stabilityPermit F t (workedDensity ρ) ≡ Denied WorkNotFinite → ⊥
   unfolding stabilityPermit
@@ -83,3 +125,33 @@ module _ (F : Fluid) (ok : T (passes F)) (t ρ : Float) where
         (g, s, by (between (real 1) rootArgument (real (10 ^ 8))) (λ p. absurd (subst T n (root-in-range rootArgument p))) (λ p. p))),
     (λ (g, s, p). rw (g, s, root-outside rootArgument p) refl),
   )
+
+  -- ---- isobaric heat capacity
+  q-number : statePermit F t ρ ≡ Granted → T (finite (Q F t (workedDensity ρ)))
+  q-number g = finite-where-granted F ok t ρ g .q
+
+  -- 1 + 2·S1
+  abbrev pub firstOfQ : Float
+  firstOfQ = real 1 ⊕ real 2 ⊗ sums F t (workedDensity ρ) .s1
+
+  q-above : statePermit F t ρ ≡ Granted → stabilityPermit F t (workedDensity ρ) ≡ Granted → eq firstOfQ (real 0) ≡ false → T (le (two⁻ 215) (Q F t (workedDensity ρ)))
+  unfolding stabilityPermit
+  q-above g s n =
+      let f = finite-where-granted F ok t ρ g in
+      let above = stable-positive («V» F t (workedDensity ρ)) (K F t (workedDensity ρ)) (Q F t (workedDensity ρ)) (f .v) (f .k) (f .q) s in
+      unfold Q in
+      q-large (real 2 ⊗ sums F t (workedDensity ρ) .s1) (sums F t (workedDensity ρ) .s2) (product-fits _ _) (unfold sums in s2-fits F (keptOf F t) _) (f .q) above n
+
+  -- 12 only where 1 + 2·S1 is 0 and Q, which is S2 then, is above 0 and under 2⁻²¹⁵
+  pub isobaric-12 : isobaricOf F t ρ ≡ Refused WorkNotFinite
+      → (statePermit F t ρ ≡ Granted) × (stabilityPermit F t (workedDensity ρ) ≡ Granted) × (eq firstOfQ (real 0) ≡ true) × (le (two⁻ 215) (Q F t (workedDensity ρ)) ≡ false)
+  unfolding isobaricOf
+  isobaric-12 r =
+      let (g, s, n) = both-granted (statePermit F t ρ) (stabilityPermit F t (workedDensity ρ)) (isobaricValue F t (workedDensity ρ)) (state-denied F t ρ) stability-denied r in
+      let small : le (two⁻ 215) (Q F t (workedDensity ρ)) ≡ false =
+      by (le (two⁻ 215) (Q F t (workedDensity ρ)))
+      (λ large. absurd (subst T n (finite-where-granted F ok t ρ g .isobaric (holds (le (two⁻ 215) (Q F t (workedDensity ρ))) large))))
+      (λ small. small) in
+      let zero-first : eq firstOfQ (real 0) ≡ true =
+      by (eq firstOfQ (real 0)) (λ z. z) (λ z. absurd (subst T small (q-above g s z))) in
+      (g, s, zero-first, small)
