@@ -17,6 +17,7 @@ pub mod R245ca
 pub mod Permits
 pub mod NeverTwelve
 pub mod Searches
+pub mod CCall
 pub mod AmongNumbers
 pub mod Elementary
 pub mod Potentials
