@@ -8,3 +8,4 @@ pub mod Density
 pub mod Outcomes
 pub mod Questions
 pub mod Bench
+pub mod Records
