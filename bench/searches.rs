@@ -106,19 +106,19 @@ fn prepared(t: f64, greatest: &mut [f64], least: &mut [f64]) -> u32 {
         return 7;
     }
     if !filled(&keep(t), greatest, least) {
-        greatest[..=TOP].fill(0.0);
-        least[..=TOP].fill(0.0);
+        greatest.iter_mut().take(TOP + 1).for_each(|g| *g = 0.0);
+        least.iter_mut().take(TOP + 1).for_each(|l| *l = 0.0);
         return 12;
     }
-    for j in 0..TOP {
-        if !(greatest[j] < greatest[j + 1]) {
-            greatest[j + 1] = greatest[j];
-        }
+    let mut so_far = f64::NEG_INFINITY;
+    for g in greatest.iter_mut().take(TOP + 1) {
+        so_far = if so_far < *g { *g } else { so_far };
+        *g = so_far;
     }
-    for j in (0..TOP).rev() {
-        if least[j + 1] < least[j] {
-            least[j] = least[j + 1];
-        }
+    let mut from_here = f64::INFINITY;
+    for l in least.iter_mut().take(TOP + 1).rev() {
+        from_here = if from_here < *l { from_here } else { *l };
+        *l = from_here;
     }
     0
 }
@@ -131,11 +131,15 @@ pub unsafe extern "C" fn rust_prepare(t: f64, g: *mut f64, places_g: usize, l: *
     prepared(t, core::slice::from_raw_parts_mut(g, places_g), core::slice::from_raw_parts_mut(l, places_l))
 }
 
+fn is_above(list: &[f64], place: usize, p: f64) -> bool {
+    list.get(place).is_some_and(|&x| x > p)
+}
+
 fn halved_places(list: &[f64], p: f64) -> usize {
     let (mut a, mut b) = (0, TOP);
     while b - a > 1 {
         let middle = (a + b) / 2;
-        if list[middle] > p {
+        if is_above(list, middle, p) {
             b = middle;
         } else {
             a = middle;
@@ -152,7 +156,7 @@ fn halved_places(list: &[f64], p: f64) -> usize {
 #[no_mangle]
 pub unsafe extern "C" fn rust_quick(t: f64, p: f64, g: *const f64, places_g: usize, _l: *const f64, places_l: usize) -> f64 {
     let greatest = core::slice::from_raw_parts(g, places_g);
-    if !permitted(t, p) || greatest.len() <= TOP || places_l <= TOP || !(greatest[TOP] > p) {
+    if !permitted(t, p) || places_l <= TOP || !is_above(greatest, TOP, p) {
         return f64::NAN;
     }
     let kept = keep(t);

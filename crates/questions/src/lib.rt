@@ -98,17 +98,17 @@ fn answer_bits(a: Answer) -> u64
     }
 }
 
-// Prepares the lists for the question at the front of s, if it is over lists and they serve another temperature; the bits that
+// Prepares the lists for the next question, at the front of a slice, if it is over lists and they serve another temperature; the bits that
 // they serve afterwards.
-fn prepare_next(s: &[u8], kept: u64, greatest: &mut [f64], least: &mut [f64]) -> u64
+fn prepare_next(next: &[u8], kept: u64, greatest: &mut [f64], least: &mut [f64]) -> u64
     requires { ⌜ Serves (ofBits binary64 kept) (now greatest) (now least) ⌝ }
-    ensures { λ r. ⌜ Serves (ofBits binary64 r) (now (greatest .exit)) (now (least .exit)) × ServesNext (now (s .entry)) (now (greatest .exit)) (now (least .exit)) ⌝ }
+    ensures { λ r. ⌜ Serves (ofBits binary64 r) (now (greatest .exit)) (now (least .exit)) × ServesNext (now (next .entry)) (now (greatest .exit)) (now (least .exit)) ⌝ }
 {
-    if s.len() < 24 {
+    if next.len() < 24 {
         return kept;
     }
-    let call = word(s);
-    let first = word(&s[8..]);
+    let call = word(next);
+    let first = word(&next[8..]);
     prepare_for(call, first, kept, greatest, least)
 }
 

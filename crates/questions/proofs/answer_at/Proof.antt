@@ -11,7 +11,7 @@ use Rattle.questions.proofs.answer_at.Tie as tie
 
 returns : tie.Need-returns
 unfolding answerAt
-returns c = simp (lt-leb _ _ (c .if1 .taken))
+returns c = simp (lt-leb 24 _ (c .if1 .taken))
 
 word-requires : tie.Need-word-requires
 word-requires c κs = search needs
@@ -55,7 +55,7 @@ returns-2 c =
     let second = third .before .before in
     let first = second .before .before in
     c .answer-over .ensures
-    ∙ simp (le-leb _ _ (first .before .if1 .left), first .word .ensures, second .word2 .ensures, third .word3 .ensures, tail-read)
+    ∙ simp (le-leb 24 _ (first .before .if1 .left), first .word .ensures, second .word2 .ensures, third .word3 .ensures, tail-read)
 
 pub answer-at-spec : {M : Type 1} → statement M
 answer-at-spec =

@@ -9,13 +9,13 @@ exponential-requires : tie.Need-exponential-requires
 exponential-requires c κs = search needs
 
 returns : tie.Need-returns
-returns c = c .exponential .ensures ∙ sym (found _ _ _ _ (c .before .if1 .taken))
+returns c = c .exponential .ensures ∙ sym (found _ 1 _ _ (c .before .if1 .taken))
 
 logarithm-requires : tie.Need-logarithm-requires
 logarithm-requires c κs = search needs
 
 returns-2 : tie.Need-returns-2
-returns-2 c = c .logarithm .ensures ∙ sym (passed-over _ _ _ _ (c .before .before .if1 .left) ∙ found _ _ _ _ (c .before .if2 .taken))
+returns-2 c = c .logarithm .ensures ∙ sym (passed-over _ 1 _ _ (c .before .before .if1 .left) ∙ found _ 2 _ _ (c .before .if2 .taken))
 
 square-root-requires : tie.Need-square-root-requires
 square-root-requires c κs = search needs
@@ -25,7 +25,7 @@ returns-3 c =
     let at3 = c .before in
     let at2 = at3 .before in
     c .square-root .ensures
-    ∙ sym (passed-over _ _ _ _ (at2 .before .if1 .left) ∙ passed-over _ _ _ _ (at2 .if2 .left) ∙ found _ _ _ _ (at3 .if3 .taken))
+    ∙ sym (passed-over _ 1 _ _ (at2 .before .if1 .left) ∙ passed-over _ 2 _ _ (at2 .if2 .left) ∙ found _ 3 _ _ (at3 .if3 .taken))
 
 answer-from-10-requires : tie.Need-answer-from-10-requires
 answer-from-10-requires c κs = search needs
@@ -35,7 +35,7 @@ returns-4 c =
     let at3 = c .before in
     let at2 = at3 .before in
     c .answer-from-10 .ensures
-    ∙ sym (passed-over _ _ _ _ (at2 .before .if1 .left) ∙ passed-over _ _ _ _ (at2 .if2 .left) ∙ passed-over _ _ _ _ (at3 .if3 .left))
+    ∙ sym (passed-over _ 1 _ _ (at2 .before .if1 .left) ∙ passed-over _ 2 _ _ (at2 .if2 .left) ∙ passed-over _ 3 _ _ (at3 .if3 .left))
 
 pub answer-from-1-spec : {M : Type 1} → statement M
 answer-from-1-spec =

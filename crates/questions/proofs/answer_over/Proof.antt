@@ -1,6 +1,7 @@
 -- `answer_over` meets its contract: its tests are those of `lookUp`, row by row, and the lists serve what the quick search is asked.
 -- Assumes nothing.
 use mathlib.Core.Path.{_∙_, sym}
+use Rattle.density.specs.declared.Side.the-variants.{FromBelow, FromAbove}
 use Rattle.questions.specs.Question.{answerTo}
 use Rattle.questions.proofs.Rows.{found, passed-over, at-numbers}
 use Rattle.questions.proofs.Served.{from-below-is-over, from-above-is-over, quick-at, serves-at}
@@ -24,7 +25,7 @@ unfolding answerTo
 returns c =
     let second = c .before .before in
     c .quick-answer .ensures
-    ∙ quick-at _ _ _ _ _ (second .before .number .ensures) (second .number2 .ensures)
+    ∙ quick-at FromBelow _ _ _ _ (second .before .number .ensures) (second .number2 .ensures)
     ∙ sym (found _ _ _ _ (c .before .if1 .taken))
 
 quick-answer-requires-2 : tie.Need-quick-answer-requires-2
@@ -38,7 +39,7 @@ returns-2 c =
     let at33 = c .before in
     let second = at33 .before .before in
     c .quick-answer2 .ensures
-    ∙ quick-at _ _ _ _ _ (second .before .number .ensures) (second .number2 .ensures)
+    ∙ quick-at FromAbove _ _ _ _ (second .before .number .ensures) (second .number2 .ensures)
     ∙ sym (passed-over _ _ _ _ (at33 .before .if1 .left) ∙ found _ _ _ _ (at33 .if2 .taken))
 
 answer-from-1-requires : tie.Need-answer-from-1-requires
