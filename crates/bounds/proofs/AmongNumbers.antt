@@ -101,10 +101,14 @@ module _ (p : ℕ → Float) (P : Float) where
     pub above-found : le (p (endStep c)) P ≡ false → HasStep (stepFromAbove p P c)
     above-found top = step-found p P c num _ (top-cell c some num low top)
 
-    -- from above 8 comes exactly if the pressure at the top is not above P
-    pub above-refuses-exactly : (e : Refusal) → stepFromAbove p P c ≡ Refused e → (e ≡ NoCell) × (le (p (endStep c)) P ≡ true)
+    -- from above the only refusal is 8, and it comes exactly if the pressure at the top is not above P
+    pub above-refuses : (e : Refusal) → stepFromAbove p P c ≡ Refused e → (e ≡ NoCell) × (le (p (endStep c)) P ≡ true)
     unfolding cellFromAbove inCell
-    above-refuses-exactly e r =
+    above-refuses e r =
         by (le (p (endStep c)) P)
         (λ top. (same-refusal e NoCell (sym (simp (num (endStep c) (omega arith), top) at r)), top))
         (λ top. let (k, f) = above-found top in absurd (found-not-refused k e (sym f ∙ r)))
+
+    pub above-refuses-exactly : (stepFromAbove p P c ≡ Refused NoCell) ↔ (le (p (endStep c)) P ≡ true)
+    unfolding cellFromAbove inCell
+    above-refuses-exactly = ((λ r. above-refuses NoCell r .1), (λ top. simp (num (endStep c) (omega arith), top)))

@@ -22,3 +22,4 @@ pub mod AmongNumbers
 pub mod Elementary
 pub mod Potentials
 pub mod Stable
+pub mod NoAnswer

@@ -28,6 +28,7 @@ use Rattle.equation.specs.Values.{τ, δ, i0, entropyValue, gibbsValue, helmhol
 use Rattle.equation.specs.Calls.{workedDensity, stateTests, statePermit, potentialPermit, entropyOf, gibbsOf, helmholtzOf}
 use Rattle.search.proofs.Tests.{by, clash}
 use Rattle.bounds.proofs.Fractions.{holds}
+use Rattle.bounds.specs.NoAnswer.{SmallDensity}
 use Rattle.bounds.proofs.Entry.{passes, Finite}
 use Rattle.bounds.proofs.Elementary.{ln-outside}
 use Rattle.bounds.proofs.Permits.{refused-granted, potential-denied}
@@ -92,15 +93,11 @@ unfolding isNan round
 tiny-number = refl
 
 module _ (F : Fluid) (ok : T (passes F)) (t ρ : Float) where
-  -- permitted, and δ under 2⁻⁶⁰
-  abbrev pub Small : Type 0
-  Small = (potentialPermit F t ρ ≡ Granted) × (lt (δ F t ρ) (two⁻ 60) ≡ true)
-
   in-range : potentialPermit F t ρ ≡ Granted → Finite F t ρ
   in-range g = subst (Finite F t) (worked-itself F t ρ g) (finite-where-granted F ok t ρ (both F t ρ g .0))
 
   exactly : (v : Float → Float) → (potentialPermit F t ρ ≡ Granted → T (le (two⁻ 60) (δ F t ρ)) → T (finite (v ρ))) → (le (two⁻ 60) (δ F t ρ) ≡ false → v ρ ≡ nan)
-      → (permitted (potentialPermit F t ρ) (outcomeOf (v (workedDensity ρ))) ≡ Refused WorkNotFinite) ↔ Small
+      → (permitted (potentialPermit F t ρ) (outcomeOf (v (workedDensity ρ))) ≡ Refused WorkNotFinite) ↔ SmallDensity F t ρ
   exactly v number none = (
     (λ r.
         let (g, not-finite) = refused-granted (potentialPermit F t ρ) (v (workedDensity ρ)) (potential-denied F t ρ) r in (
@@ -115,14 +112,14 @@ module _ (F : Fluid) (ok : T (passes F)) (t ρ : Float) where
         ∙ none (not-le-of-lt (two⁻ 60) (δ F t ρ) tiny-number (finite-number (δ F t ρ) (in-range g .reduced)) small))),
   )
 
-  pub entropy-12 : (entropyOf F t ρ ≡ Refused WorkNotFinite) ↔ Small
+  pub entropy-12 : (entropyOf F t ρ ≡ Refused WorkNotFinite) ↔ SmallDensity F t ρ
   unfolding entropyOf
   entropy-12 = exactly (entropyValue F t) (λ g. in-range g .entropy) (no-entropy F t ρ)
 
-  pub gibbs-12 : (gibbsOf F t ρ ≡ Refused WorkNotFinite) ↔ Small
+  pub gibbs-12 : (gibbsOf F t ρ ≡ Refused WorkNotFinite) ↔ SmallDensity F t ρ
   unfolding gibbsOf
   gibbs-12 = exactly (gibbsValue F t) (λ g. in-range g .gibbs) (no-gibbs F t ρ)
 
-  pub helmholtz-12 : (helmholtzOf F t ρ ≡ Refused WorkNotFinite) ↔ Small
+  pub helmholtz-12 : (helmholtzOf F t ρ ≡ Refused WorkNotFinite) ↔ SmallDensity F t ρ
   unfolding helmholtzOf
   helmholtz-12 = exactly (helmholtzValue F t) (λ g. in-range g .helmholtz) (no-helmholtz F t ρ)

@@ -51,13 +51,13 @@ use Rattle.density.proofs.NeverNine.{state-refuses, searched-refuses, quick-cal
 use Rattle.density.proofs.QuickIsPlain.{quick-is-plain, never-sixteen}
 use Rattle.density.proofs.Twelve.{gives-twelve-is-not-finite}
 use Rattle.density.proofs.Encloses.{Answers, plain-from-below-encloses, plain-from-above-encloses}
-use Rattle.density.proofs.ExactlyEight.{refuses-with-eight, refuses-exactly}
+use Rattle.density.proofs.ExactlyEight.{refuses-exactly}
 use Rattle.density.proofs.PreparationFails.{fails-with-twelve, fails-exactly}
 use Rattle.bounds.proofs.Fractions.{holds, is-true}
 use Rattle.bounds.proofs.Entry.{temperature-finite, finite-in-range}
 use Rattle.bounds.proofs.Permits.{never-denied}
 use Rattle.bounds.proofs.R245ca.{r245ca-passes, r245ca-rises}
-use Rattle.bounds.proofs.AmongNumbers.{HasStep, below-found, above-found, above-refuses-exactly}
+use Rattle.bounds.proofs.AmongNumbers.{HasStep, below-found, above-found, above-refuses, above-refuses-exactly}
 
 -- ---- a step's density is in the range
 -- 1,664 cells of 2²³ steps of 2⁻³⁰ are 13 mol/dm³
@@ -114,12 +114,9 @@ module _ (t P : Float) (c : ℕ) (ok : searchInputsOf t P c true ≡ Granted) wh
   all-numbers : Numbers (pressuresOf t) (endStep c)
   all-numbers = numbers t (search-passed t P c true ok .temperature-passed) c (search-passed t P c true ok .top-passed)
 
-  -- it refuses with 8 only, and exactly if no coarse cell j has p(j) ≤ P < p(j+1)
-  pub below-refuses-with-eight : (e : Refusal) → plainOf t P c FromBelow ≡ Found.Refused e → e ≡ NoCell
-  below-refuses-with-eight = refuses-with-eight t P c ok all-numbers
-
-  pub below-refuses-exactly : (plainOf t P c FromBelow ≡ Found.Refused NoCell) ↔ NoCellEncloses (atEnds (pressuresOf t)) P c
-  below-refuses-exactly = refuses-exactly t P c ok all-numbers
+  -- it refuses exactly if no coarse cell j has p(j) ≤ P < p(j+1)
+  pub from-below-exactly : (plainOf t P c FromBelow ≡ Found.Refused NoCell) ↔ NoCellEncloses (atEnds (pressuresOf t)) P c
+  from-below-exactly = refuses-exactly t P c ok all-numbers
 
 -- ---- a search at permitted inputs, by what its place is
 twelve-not-eight : WorkNotFinite ≡ NoCell → ⊥
@@ -149,14 +146,25 @@ module _ (t P : Float) (c : ℕ) (ok : searchInputsOf t P c true ≡ Granted) wh
 
   place-not-12 : (side : Side) → plainStepOf side (pressuresOf t) P c ≡ Place.Refused WorkNotFinite → ⊥
   place-not-12 FromBelow r = twelve-not-eight (any.refuses-with-eight (pressuresOf t) P c (all-numbers t P c ok) WorkNotFinite r)
-  place-not-12 FromAbove r = twelve-not-eight (above-refuses-exactly (pressuresOf t) P c (asked .some-cell) (all-numbers t P c ok) starts-low WorkNotFinite r .0)
+  place-not-12 FromAbove r = twelve-not-eight (above-refuses (pressuresOf t) P c (asked .some-cell) (all-numbers t P c ok) starts-low WorkNotFinite r .0)
 
-  -- from above it refuses with 8 only, and only if the pressure at the top is not above P
-  pub above-refuses-with-eight : (e : Refusal) → plainOf t P c FromAbove ≡ Found.Refused e → (e ≡ NoCell) × (le (pressuresOf t (endStep c)) P ≡ true)
+  place-refused : (side : Side) (e : Refusal) → plainOf t P c side ≡ Found.Refused e → plainStepOf side (pressuresOf t) P c ≡ Place.Refused e
   unfolding plainOf
-  above-refuses-with-eight e r =
-      above-refuses-exactly (pressuresOf t) P c (asked .some-cell) (all-numbers t P c ok) starts-low e
-      (state-refuses t FromAbove (plainStepOf FromAbove (pressuresOf t) P c) e (rw ok at r))
+  place-refused side e r = state-refuses t side (plainStepOf side (pressuresOf t) P c) e (rw ok at r)
+
+  -- it refuses with 8 only
+  pub only-eight : (side : Side) (e : Refusal) → plainOf t P c side ≡ Found.Refused e → e ≡ NoCell
+  only-eight FromBelow e r = any.refuses-with-eight (pressuresOf t) P c (all-numbers t P c ok) e (place-refused FromBelow e r)
+  only-eight FromAbove e r = above-refuses (pressuresOf t) P c (asked .some-cell) (all-numbers t P c ok) starts-low e (place-refused FromAbove e r) .0
+
+  -- from above exactly if the pressure at the top is not above P
+  pub from-above-exactly : (plainOf t P c FromAbove ≡ Found.Refused NoCell) ↔ (le (pressuresOf t (endStep c)) P ≡ true)
+  unfolding plainOf foundStateOf
+  from-above-exactly =
+      let (one, other) = above-refuses-exactly (pressuresOf t) P c (asked .some-cell) (all-numbers t P c ok) starts-low in (
+        (λ r. one (place-refused FromAbove NoCell r)),
+        (λ top. rw (ok, other top)),
+      )
 
   -- where the pressure at the top is above P there is a density, from either side
   place-found : lt P (pressuresOf t (endStep c)) ≡ true → (side : Side) → HasStep (plainStepOf side (pressuresOf t) P c)

@@ -29,6 +29,7 @@ use Rattle.equation.specs.Kept.{keptOf}
 use Rattle.equation.specs.Values.{δ, sums, «V», K, Q, isobaricValue, soundSpeedValue}
 use Rattle.equation.specs.Calls.{workedDensity, stableOf, statePermit, stabilityPermit, isobaricOf, soundSpeedOf}
 use Rattle.search.proofs.Tests.{by}
+use Rattle.bounds.specs.NoAnswer.{StableState, rootArgument, VanishingQ}
 use Rattle.bounds.proofs.Fractions.{is-true, holds, plus, less, order-of-test}
 use Rattle.bounds.proofs.Representable.{sum-fits, product-fits, sum-is, summands-finite}
 use Rattle.bounds.proofs.Rows.{s2-fits}
@@ -113,25 +114,20 @@ module _ (F : Fluid) (ok : T (passes F)) (t ρ : Float) where
       stable-denied («V» F t (workedDensity ρ)) (K F t (workedDensity ρ)) (Q F t (workedDensity ρ)) (f .v) (f .k) (f .q)
 
   -- ---- sound speed
-  -- the root's argument (R·T)/M·(Q + K·K/V)
-  abbrev pub rootArgument : Float
-  rootArgument = (F .R ⊗ t) ⊘ F .M ⊗ (Q F t (workedDensity ρ) ⊕ K F t (workedDensity ρ) ⊗ K F t (workedDensity ρ) ⊘ «V» F t (workedDensity ρ))
-
-  pub sound-speed-12 : (soundSpeedOf F t ρ ≡ Refused WorkNotFinite) ↔ ((statePermit F t ρ ≡ Granted) × (stabilityPermit F t (workedDensity ρ) ≡ Granted) × (between (real 1) rootArgument (real (10 ^ 8)) ≡ false))
+  pub sound-speed-12 : (soundSpeedOf F t ρ ≡ Refused WorkNotFinite) ↔ (StableState F t ρ × (between (real 1) (rootArgument F t ρ) (real (10 ^ 8)) ≡ false))
   unfolding soundSpeedOf soundSpeedValue
   sound-speed-12 = (
     (λ r.
-        let (g, s, n) = both-granted (statePermit F t ρ) (stabilityPermit F t (workedDensity ρ)) (rootOf rootArgument) (state-denied F t ρ) stability-denied r in
-        (g, s, by (between (real 1) rootArgument (real (10 ^ 8))) (λ p. absurd (subst T n (root-in-range rootArgument p))) (λ p. p))),
-    (λ (g, s, p). rw (g, s, root-outside rootArgument p) refl),
+        let (g, s, n) = both-granted (statePermit F t ρ) (stabilityPermit F t (workedDensity ρ)) (rootOf (rootArgument F t ρ)) (state-denied F t ρ) stability-denied r in
+        ((g, s), by (between (real 1) (rootArgument F t ρ) (real (10 ^ 8))) (λ p. absurd (subst T n (root-in-range (rootArgument F t ρ) p))) (λ p. p))),
+    (λ ((g, s), p). rw (g, s, root-outside (rootArgument F t ρ) p) refl),
   )
 
   -- ---- isobaric heat capacity
   q-number : statePermit F t ρ ≡ Granted → T (finite (Q F t (workedDensity ρ)))
   q-number g = finite-where-granted F ok t ρ g .q
 
-  -- 1 + 2·S1
-  abbrev pub firstOfQ : Float
+  abbrev firstOfQ : Float
   firstOfQ = real 1 ⊕ real 2 ⊗ sums F t (workedDensity ρ) .s1
 
   q-above : statePermit F t ρ ≡ Granted → stabilityPermit F t (workedDensity ρ) ≡ Granted → eq firstOfQ (real 0) ≡ false → T (le (two⁻ 215) (Q F t (workedDensity ρ)))
@@ -143,8 +139,7 @@ module _ (F : Fluid) (ok : T (passes F)) (t ρ : Float) where
       q-large (real 2 ⊗ sums F t (workedDensity ρ) .s1) (sums F t (workedDensity ρ) .s2) (product-fits _ _) (unfold sums in s2-fits F (keptOf F t) _) (f .q) above n
 
   -- 12 only where 1 + 2·S1 is 0 and Q, which is S2 then, is above 0 and under 2⁻²¹⁵
-  pub isobaric-12 : isobaricOf F t ρ ≡ Refused WorkNotFinite
-      → (statePermit F t ρ ≡ Granted) × (stabilityPermit F t (workedDensity ρ) ≡ Granted) × (eq firstOfQ (real 0) ≡ true) × (le (two⁻ 215) (Q F t (workedDensity ρ)) ≡ false)
+  pub isobaric-12 : isobaricOf F t ρ ≡ Refused WorkNotFinite → StableState F t ρ × VanishingQ F t ρ
   unfolding isobaricOf
   isobaric-12 r =
       let (g, s, n) = both-granted (statePermit F t ρ) (stabilityPermit F t (workedDensity ρ)) (isobaricValue F t (workedDensity ρ)) (state-denied F t ρ) stability-denied r in
@@ -154,4 +149,4 @@ module _ (F : Fluid) (ok : T (passes F)) (t ρ : Float) where
       (λ small. small) in
       let zero-first : eq firstOfQ (real 0) ≡ true =
       by (eq firstOfQ (real 0)) (λ z. z) (λ z. absurd (subst T small (q-above g s z))) in
-      (g, s, zero-first, small)
+      ((g, s), (zero-first, small))

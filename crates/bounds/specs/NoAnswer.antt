@@ -1,0 +1,112 @@
+-- docs/NO-ANSWER.md, "When is there no answer?", line by line: when each call refuses with 12, and what the density searches refuse
+-- with; proofs/NoAnswer.antt proves it of R-245ca.
+use mathlib.Core.Path.{_≡_}
+use mathlib.Core.Logic.{_↔_, _⊎_}
+use mathlib.Core.List.{List, [], _∷_}
+use mathlib.Core.Bool.{true, false}
+use Prim.Native.Nat.{ℕ, _^_}
+use lib.ListN.{length}
+use lib.Ieee.{Float, le, lt, eq}
+use lib.Ieee.Scale.{finite}
+use Rattle.refusals.specs.declared.Refusal.{Refusal}
+use Rattle.refusals.specs.declared.Refusal.the-variants.{NoCell, NotEnclosed, NotNeighbours, WorkNotFinite}
+use Rattle.refusals.specs.declared.Permit.the-variants.{Granted}
+use Rattle.refusals.specs.declared.Answer.{Answer}
+use Rattle.refusals.specs.declared.Answer.the-variants.{Refused}
+use Rattle.refusals.specs.Code.{answerCodeOf}
+use Rattle.arithmetic.specs.Checked.{real, two⁻, minus, between, _⊕_, _⊗_, _⊘_}
+use Rattle.arithmetic.specs.Calls.{exponentialOf, logarithmOf, squareRootOf}
+use Rattle.fluids.specs.Fluid.{Fluid}
+use Rattle.fluids.specs.R245ca.{r245ca}
+use Rattle.equation.specs.Values.{δ, sums, «V», K, Q}
+use Rattle.equation.specs.Calls.{workedDensity, statePermit, potentialPermit, stabilityPermit, pressureOf, energyOf, enthalpyOf, isochoricOf, entropyOf, gibbsOf, helmholtzOf, isobaricOf, soundSpeedOf}
+use Rattle.saturation.specs.Calls.{saturationPressureOf, saturatedLiquidOf, saturatedVapourOf}
+use Rattle.search.specs.Plain.{endStep, atEnds}
+use Rattle.search.proofs.ExactlyEight.{NoCellEncloses}
+use Rattle.density.specs.declared.Side.{Side}
+use Rattle.density.specs.declared.Side.the-variants.{FromBelow, FromAbove}
+use Rattle.density.specs.declared.Word.{Word}
+use Rattle.density.specs.declared.Found.{Found}
+use Rattle.density.specs.declared.Found.the-variants.{State}
+use Rattle.density.specs.declared.Prepared.the-variants.{Ready}
+use Rattle.density.specs.Inputs.{roomOf, searchInputsOf, prepareInputsOf}
+use Rattle.density.specs.Calls.{pressuresOf, plainOf, prepareOf, greatestAfter, leastAfter, quickOf}
+use Rattle.density.specs.Codes.{foundCodeOf}
+use Rattle.density.proofs.Encloses.{Answers}
+
+abbrev pub Never12 : Answer → Type 0
+Never12 a = a ≡ Refused WorkNotFinite → ⊥
+
+abbrev pub Exactly12 : Answer → Type 0 → Type 0
+Exactly12 a condition = (a ≡ Refused WorkNotFinite) ↔ condition
+
+-- exp, ln and root, at a finite x: outside their ranges
+pub record ElementaryCalls : Type 0 where
+  pub exponential : (x : Float) → Exactly12 (exponentialOf x) ((finite x ≡ true) × (between (minus (real 700)) x (real 700) ≡ false))
+  pub logarithm : (x : Float) → Exactly12 (logarithmOf x) ((finite x ≡ true) × (between (two⁻ 60) x (real (2 ^ 60)) ≡ false))
+  pub square-root : (x : Float) → Exactly12 (squareRootOf x) ((finite x ≡ true) × (between (real 1) x (real (10 ^ 8)) ≡ false))
+
+module _ (F : Fluid) (t ρ : Float) where
+  -- permitted, so in range with a density above 0, and δ under 2⁻⁶⁰
+  abbrev pub SmallDensity : Type 0
+  SmallDensity = (potentialPermit F t ρ ≡ Granted) × (lt (δ F t ρ) (two⁻ 60) ≡ true)
+
+  -- in range, with Q > 0 and V > 0
+  abbrev pub StableState : Type 0
+  StableState = (statePermit F t ρ ≡ Granted) × (stabilityPermit F t (workedDensity ρ) ≡ Granted)
+
+  -- sound speed's (R·T)/M·(Q + K·K/V), the root's argument
+  abbrev pub rootArgument : Float
+  rootArgument = (F .R ⊗ t) ⊘ F .M ⊗ (Q F t (workedDensity ρ) ⊕ K F t (workedDensity ρ) ⊗ K F t (workedDensity ρ) ⊘ «V» F t (workedDensity ρ))
+
+  -- 1 + 2·S1 is 0, and Q, which is S2 then, lies under 2⁻²¹⁵
+  abbrev pub VanishingQ : Type 0
+  VanishingQ = (eq (real 1 ⊕ real 2 ⊗ sums F t (workedDensity ρ) .s1) (real 0) ≡ true) × (le (two⁻ 215) (Q F t (workedDensity ρ)) ≡ false)
+
+-- the nine properties, whatever the two numbers are
+pub record PropertyCalls (F : Fluid) : Type 0 where
+  pub pressure : (t ρ : Float) → Never12 (pressureOf F t ρ)
+  pub energy : (t ρ : Float) → Never12 (energyOf F t ρ)
+  pub enthalpy : (t ρ : Float) → Never12 (enthalpyOf F t ρ)
+  pub isochoric : (t ρ : Float) → Never12 (isochoricOf F t ρ)
+  pub entropy : (t ρ : Float) → Exactly12 (entropyOf F t ρ) (SmallDensity F t ρ)
+  pub gibbs : (t ρ : Float) → Exactly12 (gibbsOf F t ρ) (SmallDensity F t ρ)
+  pub helmholtz : (t ρ : Float) → Exactly12 (helmholtzOf F t ρ) (SmallDensity F t ρ)
+  pub sound-speed : (t ρ : Float) → Exactly12 (soundSpeedOf F t ρ) (StableState F t ρ × (between (real 1) (rootArgument F t ρ) (real (10 ^ 8)) ≡ false))
+  -- one way only: whether such a state is there is open
+  pub isobaric : (t ρ : Float) → isobaricOf F t ρ ≡ Refused WorkNotFinite → StableState F t ρ × VanishingQ F t ρ
+
+pub record EstimateCalls (F : Fluid) : Type 0 where
+  pub saturation-pressure : (t : Float) → Never12 (saturationPressureOf F t)
+  pub saturated-liquid : (t : Float) → Never12 (saturatedLiquidOf F t)
+  pub saturated-vapour : (t : Float) → Never12 (saturatedVapourOf F t)
+
+-- a search never ends with one of 9, 12 and 16
+abbrev pub NoneOf9·12·16 : Found → Type 0
+NoneOf9·12·16 f = (f ≡ Found.Refused NotNeighbours → ⊥) × (f ≡ Found.Refused WorkNotFinite → ⊥) × (f ≡ Found.Refused NotEnclosed → ⊥)
+
+-- the searches of R-245ca, with no proviso
+pub record SearchCalls : Type 0 where
+  -- a preparation never fails at a permitted T and c in lists long enough
+  pub prepared : (t : Float) (c : ℕ) (g l : List Float) → prepareInputsOf t c (roomOf c (length g) (length l)) ≡ Granted → prepareOf t c g l ≡ Ready
+  -- whatever its inputs, a plain search and a quick one over prepared lists give none of 9, 12 and 16
+  pub plain : (t P : Float) (c : ℕ) (side : Side) → NoneOf9·12·16 (plainOf t P c side)
+  pub quick : (t P : Float) (c : ℕ) (side : Side) (g l : List Float) → prepareOf t c g l ≡ Ready → NoneOf9·12·16 (quickOf t P c side (greatestAfter t c g l) (leastAfter t c g l))
+  -- at a permitted T, P and c: 8 from below exactly if no coarse cell j has p(j) ≤ P < p(j+1), from above exactly if p(c) ≤ P
+  pub from-below : (t P : Float) (c : ℕ) → searchInputsOf t P c true ≡ Granted → (plainOf t P c FromBelow ≡ Found.Refused NoCell) ↔ NoCellEncloses (atEnds (pressuresOf t)) P c
+  pub from-above : (t P : Float) (c : ℕ) → searchInputsOf t P c true ≡ Granted → (plainOf t P c FromAbove ≡ Found.Refused NoCell) ↔ (le (pressuresOf t (endStep c)) P ≡ true)
+  -- and no other refusal
+  pub only-8 : (t P : Float) (c : ℕ) (side : Side) → searchInputsOf t P c true ≡ Granted → (e : Refusal) → plainOf t P c side ≡ Found.Refused e → e ≡ NoCell
+  -- an answered density encloses P
+  pub encloses : (t P : Float) (c : ℕ) (side : Side) (density : Float) (word : Word) → plainOf t P c side ≡ State density word → Answers t P c side density word
+  -- at 1,664 cells every permitted T and P gets a density, from either side
+  pub answered : (t P : Float) (side : Side) → searchInputsOf t P 1664 true ≡ Granted → (density : Float) × (word : Word) × (plainOf t P 1664 side ≡ State density word)
+
+abbrev pub OneOf : ℕ → List ℕ → Type 0
+OneOf n [] = ⊥
+OneOf n (x ∷ xs) = (n ≡ x) ⊎ OneOf n xs
+
+-- so the code of a pressure, or of a plain search at 1,664 cells, is one of few, whatever the numbers are
+pub record Codes : Type 0 where
+  pub state : (t ρ : Float) → OneOf (answerCodeOf (pressureOf r245ca t ρ)) (0 ∷ 2 ∷ 3 ∷ 4 ∷ [])
+  pub search : (t P : Float) (side : Side) → OneOf (foundCodeOf (plainOf t P 1664 side)) (0 ∷ 2 ∷ 3 ∷ 5 ∷ [])
