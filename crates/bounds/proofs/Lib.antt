@@ -23,3 +23,4 @@ pub mod Elementary
 pub mod Potentials
 pub mod Stable
 pub mod NoAnswer
+pub mod Refused

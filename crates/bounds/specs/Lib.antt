@@ -1,1 +1,2 @@
 pub mod NoAnswer
+pub mod Variants
