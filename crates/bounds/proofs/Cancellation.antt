@@ -15,11 +15,8 @@ use lib.Ieee.Positive.{num, den, den-pos}
 use lib.Ieee.Scale.{finite}
 use Rattle.arithmetic.specs.Checked.{real, two⁻}
 use Rattle.arithmetic.proofs.Order as tests
-use Rattle.bounds.proofs.Fractions.{holds, is-true, plus, less, Le, order-of-test, test-of-order, between-finite, not-below}
+use Rattle.bounds.proofs.Fractions.{is-true, chain, plus, less, Le, order-of-test, test-of-order, between-finite, not-below}
 use Rattle.bounds.proofs.Rounding.{Rounds, rounds-mono, rounds-up, rounds-flip, sum-rounds}
-
-chain : (x y z : Float) → T (le x y) → T (le y z) → T (le x z)
-chain x y z h g = holds (le x z) (tests.le-trans x y z (is-true (le x y) h) (is-true (le y z) g))
 
 nleb→lt : (a b : ℕ) → T (not (leb a b)) → b < a
 nleb→lt a b t = lt-of-not-le (λ h. not-both (leb a b) (le→leb a b h) t)

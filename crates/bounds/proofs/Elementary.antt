@@ -26,23 +26,23 @@ use Rattle.bounds.proofs.Fractions.{holds}
 use Rattle.bounds.proofs.Rounding.{round-anti, signs-apart}
 use Rattle.bounds.proofs.Interval.{Interval, In, interval, tested, known, in-known, pick, lesser, greater, hull, across, _▶_, lies}
 use Rattle.bounds.proofs.Sum.{_⊞_, _⊟_, negated}
-use Rattle.bounds.proofs.Product.{_⊠_, productBy, fourProducts}
-use Rattle.bounds.proofs.Quotient.{_÷_, quotientBy, fourQuotients, onlyIf}
+use Rattle.bounds.proofs.Product.{_⊠_, productBy, scaled, fourProducts}
+use Rattle.bounds.proofs.Quotient.{_÷_, quotients, onlyIf}
 use Rattle.bounds.proofs.Functions.{expOver, expStepsOver, squaredOver, rootOver, rootStepsOver, ⟨exp⟩, ⟨root⟩}
 use Rattle.bounds.proofs.Logarithm.{lnWorkOver, lnStepsOver, ln-work, m-anywhere}
 
 -- ---- exp from −700 to 700, root from 1 to 10⁸
 exp-known : T (known (expOver (interval (minus (real 700)) (real 700))))
-unfolding minus interval pick lesser greater hull across _▶_ lies _⊞_ _⊠_ productBy fourProducts _÷_ quotientBy fourQuotients onlyIf expOver expStepsOver squaredOver ofInt round le lt eq neg add sub mul div
+unfolding minus interval pick lesser greater hull across _▶_ lies _⊞_ _⊠_ productBy scaled fourProducts _÷_ quotients onlyIf expOver expStepsOver squaredOver ofInt round le lt eq neg add sub mul div
 exp-known = tt
 
 root-known : T (known (rootOver (interval (real 1) (real (10 ^ 8)))))
-unfolding interval pick lesser greater hull across _▶_ lies _⊞_ _÷_ quotientBy fourQuotients onlyIf rootOver rootStepsOver ofInt round le lt eq neg add sub mul div
+unfolding interval pick lesser greater hull across _▶_ lies _⊞_ _÷_ quotients onlyIf rootOver rootStepsOver ofInt round le lt eq neg add sub mul div
 root-known = tt
 
 -- ---- ln wherever m and e are
 ln-known : T (known (lnWorkOver (interval (75 e- 2) (15 e- 1)) (interval (ofInt binary64 (negsuc 1023)) (ofInt binary64 (pos 2048)))))
-unfolding interval pick lesser greater hull across _▶_ _⊞_ _⊟_ negated _⊠_ productBy fourProducts _÷_ quotientBy fourQuotients onlyIf lnWorkOver lnStepsOver ofInt round le lt eq neg add sub mul div
+unfolding interval pick lesser greater hull across _▶_ _⊞_ _⊟_ negated _⊠_ productBy scaled fourProducts _÷_ quotients onlyIf lnWorkOver lnStepsOver ofInt round le lt eq neg add sub mul div
 ln-known = tt
 
 abbrev Near : ℤ → Type 0

@@ -10,6 +10,7 @@ use lib.Ieee.{Float, nan, inf, fin, up, down, le, lt}
 use lib.Ieee.Fits.{and-i, and-l, and-r}
 use lib.Ieee.Positive.{den, den-pos}
 use lib.Ieee.Scale.{finite}
+use Rattle.arithmetic.proofs.Order as tests
 
 -- a test that passed, as an equation
 pub is-true : (b : Bool) → T b → b ≡ true
@@ -18,6 +19,9 @@ is-true false t = absurd t
 
 pub holds : (b : Bool) → b ≡ true → T b
 holds b p = subst T (sym p) tt
+
+pub chain : (x y z : Float) → T (le x y) → T (le y z) → T (le x z)
+chain x y z h g = holds (le x z) (tests.le-trans x y z (is-true (le x y) h) (is-true (le y z) g))
 
 -- sums of products in one order
 pub ruleset rearranged = (add-mul, mul-add, mul-assoc, mul-comm, mul-left-comm, add-assoc, add-comm, add-left-comm)

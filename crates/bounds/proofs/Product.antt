@@ -1,20 +1,20 @@
--- A product of values in intervals lies in the hull of the four products of the ends: for a fixed factor of either sign
--- the product is monotone in the other.
+-- A product of values in intervals lies in the hull of the products of the ends, two of them where a factor is not negative, else four: for
+-- a fixed factor of either sign the product is monotone in the other.
 use mathlib.Core.Path.{_≡_, refl, ap₂}
 use mathlib.Core.Logic.{_⊎_, inl, inr}
 use Prim.Native.Nat.{ℕ, _+_, _*_, _≤_, _<_}
 use native.Mathlib.Nat.{le-trans, le-of-eq, mul-le-mul-left, mul-le-mul, le-of-mul-le-mul-right, mul-pos, mul-comm}
 use native.Mathlib.Omega.{arith}
-use mathlib.Core.Bool.{Bool, true, false, _&&_}
+use mathlib.Core.Bool.{Bool, true, false}
 use lib.Dec.{T}
 use lib.Ieee.{Float, nan, inf, fin, binary64, up, down, round, mul, le}
-use lib.Ieee.Fits.{and-l, and-r}
+use lib.Ieee.Fits.{down-pos}
 use lib.Ieee.Positive.{den, den-pos}
 use lib.Ieee.Scale.{finite}
 use Rattle.arithmetic.specs.Checked.{squash, _⊗_}
-use Rattle.bounds.proofs.Fractions.{rearranged, plus, less, Le}
+use Rattle.bounds.proofs.Fractions.{chain, rearranged, plus, less, Le}
 use Rattle.bounds.proofs.Rounding.{Rounds, rounds-mono, rounds-same, product-rounds}
-use Rattle.bounds.proofs.Interval.{Interval, unknown, ends, Inside, In, anything, inside, interval, result-in, squash-in, unsquash-in, hull, hull-left, hull-right, across, across-left, across-right, Amid, amid-in}
+use Rattle.bounds.proofs.Interval.{Interval, unknown, ends, Inside, In, anything, inside, interval, result-in, squash-in, unsquash-in, pick, hull, hull-left, hull-right, across, across-left, across-right, Amid, amid-in}
 
 infixl 70 _⊠_
 infixl 70 _⟨⊗⟩_
@@ -82,78 +82,72 @@ four-in l h k j x y a b =
     (hull-right (across (mul binary64 l k) (mul binary64 l j)) (factor-in h k j y (a .high) b))
     (product-amid-left l h x y (a .low) (a .high) (a .here) (b .here) (a .above) (a .below))
 
--- ---- two products are enough where nothing is negative
+-- ---- two products are enough by a factor [k, j] that is not negative
 abbrev pub unsigned : Float → Bool
 unsigned nan = false
 unsigned (inf s) = false
 unsigned (fin true m e) = false
 unsigned (fin false m e) = true
 
--- not negative
-abbrev pub Above0 : Float → Type 0
-Above0 x = T (finite x) × (less x ≡ 0)
-
-pub unsigned-less : (x : Float) → T (unsigned x) → less x ≡ 0
-unsigned-less (fin false m e) t = refl
+-- c is not negative, or not positive, by its sign
+pub by-sign : (X : Bool → Type 0) (c : Float) → T (finite c) → (less c ≡ 0 → X true) → (plus c ≡ 0 → X false) → X (unsigned c)
+by-sign X (fin true m e) p f g = g refl
+by-sign X (fin false m e) p f g = f refl
 
 zero-of : (a c : ℕ) → 0 < c → a * c ≤ 0 → a ≡ 0
 zero-of a c C h = let z : a ≤ 0 = le-of-mul-le-mul-right {k = c} (omega arith) C in omega arith
 
 -- what is above something not negative is not negative
-pub above-less : (l x : Float) → T (finite x) → less l ≡ 0 → Le l x → less x ≡ 0
+above-less : (l x : Float) → T (finite x) → T (unsigned l) → Le l x → less x ≡ 0
 above-less l (fin false m e) p q h = refl
-above-less l (fin true m e) p q h = zero-of (m * up e) (den l) (den-pos l) (let z = rw q at h in omega arith)
+above-less (fin false n d) (fin true m e) p q h = zero-of (m * up e) (down d) (down-pos d) (omega arith)
 
-pub order-of-positive : (l x : Float) → less l ≡ 0 → less x ≡ 0 → Le l x → plus l * den x ≤ plus x * den l
-order-of-positive l x p q h = let z = rw (p, q) at h in omega arith
+unfoldable pub scaled : Float → Float → Float → Float → Interval
+scaled l h k j = interval (mul binary64 l (pick (unsigned l) j k)) (mul binary64 h (pick (unsigned h) k j))
 
-positive-cross : (pl dl px dx pk dk py dy : ℕ) → pl * dx ≤ px * dl → pk * dy ≤ py * dk → pl * pk * (dx * dy) + 0 * (dl * dk) ≤ px * py * (dl * dk) + 0 * (dx * dy)
-positive-cross pl dl px dx pk dk py dy h g =
-    let a : pl * pk * (dx * dy) ≤ px * py * (dl * dk) = le-trans (le-of-eq (simp rearranged)) (le-trans (mul-le-mul h g) (le-of-eq (simp rearranged))) in
-    omega arith
+module _ (l h k j x y : Float) (a : Inside l h x) (b : Inside k j y) (above : T (unsigned k)) where
+  with-y : (u v : Float) → T (finite u) → T (finite v) → Le u v → T (le (mul binary64 u y) (mul binary64 v y))
+  with-y u v p q g = rw (product-turned u y p (b .here), product-turned v y q (b .here)) (product-rises y u v (b .here) p q g (above-less k y (b .here) above (b .above)))
 
-positive-rounds : (x y : Float) → Above0 x → Above0 y → Rounds binary64 (mul binary64 x y) (plus x * plus y) 0 (den x * den y)
-positive-rounds x y (p, e) (q, g) = rounds-same binary64 _ _ _ _ _ _ (rw (e, g) (omega arith)) (rw (e, g) (omega arith)) (product-rounds binary64 x y p q)
+  low-end : T (le (mul binary64 l (pick (unsigned l) j k)) (mul binary64 x y))
+  unfolding pick
+  low-end = by-sign (λ (s : Bool). T (le (mul binary64 l (pick s j k)) (mul binary64 x y))) l (a .low)
+      (λ e. chain (mul binary64 l k) (mul binary64 l y) (mul binary64 x y) (product-rises l k y (a .low) (b .low) (b .here) (b .above) e) (with-y l x (a .low) (a .here) (a .above)))
+      (λ e. chain (mul binary64 l j) (mul binary64 l y) (mul binary64 x y) (product-falls l y j (a .low) (b .here) (b .high) (b .below) e) (with-y l x (a .low) (a .here) (a .above)))
 
-positive-mono : (l k x y : Float) → Above0 l → Above0 k → Above0 x → Above0 y → Le l x → Le k y → T (le (mul binary64 l k) (mul binary64 x y))
-positive-mono l k x y p q r s h g =
-    rounds-mono binary64 (mul binary64 l k) (mul binary64 x y) (plus l * plus k) 0 (den l * den k) (plus x * plus y) 0 (den x * den y)
-    (mul-pos (den-pos l) (den-pos k)) (mul-pos (den-pos x) (den-pos y))
-    (positive-rounds l k p q) (positive-rounds x y r s)
-    (positive-cross (plus l) (den l) (plus x) (den x) (plus k) (den k) (plus y) (den y) (order-of-positive l x (p .1) (r .1) h) (order-of-positive k y (q .1) (s .1) g))
+  high-end : T (le (mul binary64 x y) (mul binary64 h (pick (unsigned h) k j)))
+  unfolding pick
+  high-end = by-sign (λ (s : Bool). T (le (mul binary64 x y) (mul binary64 h (pick s k j)))) h (a .high)
+      (λ e. chain (mul binary64 x y) (mul binary64 h y) (mul binary64 h j) (with-y x h (a .here) (a .high) (a .below)) (product-rises h y j (a .high) (b .here) (b .high) (b .below) e))
+      (λ e. chain (mul binary64 x y) (mul binary64 h y) (mul binary64 h k) (with-y x h (a .here) (a .high) (a .below)) (product-falls h k y (a .high) (b .low) (b .here) (b .above) e))
 
-unfoldable pub productBy : Bool → Float → Float → Float → Float → Interval
-productBy true l h k j = interval (mul binary64 l k) (mul binary64 h j)
-productBy false l h k j = fourProducts l h k j
+  scaled-in : In (scaled l h k j) (x ⊗ y)
+  unfolding scaled _⊗_
+  scaled-in = result-in _ _ (mul binary64 x y) (λ p q. (low-end, high-end))
+
+unfoldable pub productBy : Bool → Bool → Float → Float → Float → Float → Interval
+productBy true s l h k j = scaled l h k j
+productBy false true l h k j = scaled k j l h
+productBy false false l h k j = fourProducts l h k j
 
 unfoldable pub _⊠_ : Interval → Interval → Interval
 unknown ⊠ J = unknown
 ends l h ⊠ unknown = unknown
-ends l h ⊠ ends k j = productBy (unsigned l && unsigned k) l h k j
+ends l h ⊠ ends k j = productBy (unsigned k) (unsigned l) l h k j
 
--- x and its upper end are not negative where the lower end is not
-pub up-from-0 : (l h x : Float) → T (unsigned l) → Inside l h x → Above0 l × Above0 x × Above0 h
-up-from-0 l h x t a =
-    let e = unsigned-less l t in
-    let f = above-less l x (a .here) e (a .above) in
-    ((a .low, e), (a .here, f), (a .high, above-less x h (a .high) f (a .below)))
+turned : (x y : Float) → T (finite x) → T (finite y) → y ⊗ x ≡ x ⊗ y
+unfolding _⊗_
+turned x y p q = rw (product-turned y x q p)
 
 module _ (l h k j x y : Float) (a : Inside l h x) (b : Inside k j y) where
-  two-in : T (unsigned l) → T (unsigned k) → In (interval (mul binary64 l k) (mul binary64 h j)) (x ⊗ y)
-  unfolding _⊗_
-  two-in t u =
-      let (al, ax, ah) = up-from-0 l h x t a in
-      let (bk, by', bj) = up-from-0 k j y u b in
-      result-in (mul binary64 l k) (mul binary64 h j) (mul binary64 x y)
-      (λ p q. (positive-mono l k x y al bk ax by' (a .above) (b .above), positive-mono x y h j ax by' ah bj (a .below) (b .below)))
-
-  product-by : (t : Bool) → (T t → T (unsigned l && unsigned k)) → In (productBy t l h k j) (x ⊗ y)
+  product-by : (s u : Bool) → (T s → T (unsigned k)) → (T u → T (unsigned l)) → In (productBy s u l h k j) (x ⊗ y)
   unfolding productBy
-  product-by true t = two-in (and-l (unsigned l) (unsigned k) (t tt)) (and-r (unsigned l) (unsigned k) (t tt))
-  product-by false t = four-in l h k j x y a b
+  product-by true u p q = scaled-in l h k j x y a b (p tt)
+  product-by false true p q = rw (← turned x y (a .here) (b .here)) (scaled-in k j l h y x b a (q tt))
+  product-by false false p q = four-in l h k j x y a b
 
 pub _⟨⊗⟩_ : {I J : Interval} {x y : Float} → In I x → In J y → In (I ⊠ J) (x ⊗ y)
 unfolding _⊠_
 anything ⟨⊗⟩ b = anything
 inside a ⟨⊗⟩ anything = anything
-_⟨⊗⟩_ {x = x} {y = y} (inside {l} {h} a) (inside {l = k} {h = j} b) = product-by l h k j x y a b (unsigned l && unsigned k) (λ t. t)
+_⟨⊗⟩_ {x = x} {y = y} (inside {l} {h} a) (inside {l = k} {h = j} b) = product-by l h k j x y a b (unsigned k) (unsigned l) (λ t. t) (λ t. t)
