@@ -2,13 +2,13 @@
 -- plain searches find a step; and from above 8 comes exactly if the one at the top is not above P. The visits meet an end of the
 -- kind that they look for, and in the cell nothing refuses.
 use mathlib.Core.Path.{_≡_, refl, sym, ap, _∙_, subst}
-use mathlib.Core.Logic.{_↔_, _⊎_, inl, inr}
+use mathlib.Core.Logic.{_↔_}
 use mathlib.Core.Bool.{true, false}
 use Prim.Native.Nat.{ℕ, zero, suc, _+_, _-_, _/_, _≤_, _<_}
 use native.Mathlib.Nat.{zero-add}
 use native.Mathlib.Omega.{arith}
 use lib.Dec.{eqb}
-use lib.Ieee.{Float, lt, le, isNan}
+use lib.Ieee.{Float, lt, le}
 use Rattle.refusals.specs.declared.Refusal.{Refusal}
 use Rattle.refusals.specs.declared.Refusal.the-variants.{NoCell, NotNeighbours, WorkNotFinite}
 use Rattle.search.specs.declared.Place.{Place}
@@ -16,7 +16,7 @@ use Rattle.search.specs.declared.Place.the-variants.{At, Refused}
 use Rattle.search.specs.Plain.{endStep, atEnds, visitUp, cellFromBelow, visitDown, cellFromAbove}
 use Rattle.search.specs.InCell.{halved, inCell}
 use Rattle.search.specs.Searches.{stepFromBelow, stepFromAbove}
-use Rattle.search.proofs.Tests.{by, clash}
+use Rattle.search.proofs.Tests.{by}
 use Rattle.search.proofs.GreatestAndLeast.{Numbers}
 use Rattle.search.proofs.NeverNine.{found-not-refused, same-refusal, cell-refuses}
 

@@ -1,13 +1,13 @@
 -- A sum of two binary64 numbers is 0 or not very small: as fractions their denominators are bounded, so their difference is 0 or at least
 -- one over the product.
-use mathlib.Core.Path.{_≡_, refl, sym, ap, _∙_, subst}
+use mathlib.Core.Path.{_≡_, refl, ap, subst}
 use mathlib.Core.Logic.{_⊎_, inl, inr}
 use mathlib.Core.Bool.{Bool, true, false, not, _&&_, _||_}
-use Prim.Native.Nat.{ℕ, zero, suc, _+_, _-_, _*_, _%_, _^_, _≤_, _<_}
+use Prim.Native.Nat.{ℕ, zero, suc, _+_, _*_, _%_, _^_, _≤_, _<_}
 use native.Mathlib.Nat.{le-trans, le-of-lt, le-of-eq, lt-of-not-le, eq-or-lt-of-le, pow-suc, mul-le-mul, mul-le-mul-left, mul-le-mul-right, mul-pos}
 use native.Mathlib.Omega.{arith}
 use lib.Dec.{T, leb, ltb, eqb, eqb→eq, eqb-refl, leb→le, le→leb, ltb→lt, nltb→le, lit≤, lit<}
-use lib.IntN.{ℤ, pos, negsuc}
+use lib.IntN.{pos, negsuc}
 use lib.Pow.{pow-pos, pow-add, pow-mono}
 use lib.Ieee.{Float, nan, inf, fin, binary64, low, emax, up, down, fits, round, ofInt, add, neg, le, lt, eq}
 use lib.Ieee.Fits.{and-l, and-r}
@@ -15,7 +15,7 @@ use lib.Ieee.Positive.{num, den, den-pos}
 use lib.Ieee.Scale.{finite}
 use Rattle.arithmetic.specs.Checked.{real, two⁻}
 use Rattle.arithmetic.proofs.Order as tests
-use Rattle.bounds.proofs.Fractions.{is-true, chain, plus, less, Le, order-of-test, test-of-order, between-finite, not-below}
+use Rattle.bounds.proofs.Fractions.{is-true, chain, plus, less}
 use Rattle.bounds.proofs.Rounding.{Rounds, rounds-mono, rounds-up, rounds-flip, sum-rounds}
 
 nleb→lt : (a b : ℕ) → T (not (leb a b)) → b < a

@@ -1,19 +1,17 @@
 -- exp, ln and root refuse with 12 exactly outside their stated ranges: each range is worked as one interval, and it is known.
-use mathlib.Core.Path.{_≡_, refl, sym, ap, _∙_, subst}
+use mathlib.Core.Path.{_≡_, refl}
 use mathlib.Core.Logic.{_↔_}
-use mathlib.Core.Bool.{Bool, true, false, not, cond, _&&_}
-use Prim.Native.Nat.{ℕ, zero, suc, _+_, _-_, _*_, _/_, _%_, _^_, _≤_, _<_}
-use native.Mathlib.Nat.{add-zero}
+use mathlib.Core.Bool.{Bool, true, false, cond}
+use Prim.Native.Nat.{ℕ, zero, suc, _+_, _-_, _^_, _≤_, _<_}
 use native.Mathlib.Omega.{arith}
-use lib.Dec.{T, ltb, ltb→lt, nltb→le, lit<}
+use lib.Dec.{T, ltb, lit<}
 use lib.IntN.{ℤ, pos, negsuc, _-ℤ_}
-use lib.Ieee.{Float, nan, inf, fin, binary64, toBits, ofInt, round, le, lt, eq, neg, add, sub, mul, div}
+use lib.Ieee.{Float, nan, fin, binary64, ofInt, round, le, lt, eq, neg, add, sub, mul, div}
 use lib.Ieee.Fits.{and-l, and-r}
 use lib.Ieee.Order.{round-mono}
 use lib.Ieee.Scale.{finite}
 use Rattle.refusals.specs.declared.Refusal.the-variants.{InputNotFinite, WorkNotFinite}
-use Rattle.refusals.specs.declared.Answer.the-variants.{Number, Refused}
-use Rattle.refusals.specs.Order.{need}
+use Rattle.refusals.specs.declared.Answer.the-variants.{Refused}
 use Rattle.arithmetic.specs.Checked.{real, _e-_, two⁻, minus, between, within}
 use Rattle.arithmetic.specs.Exp.{expOf}
 use Rattle.arithmetic.specs.Ln.{digits, field, mField, mOf, eOf, lnWork, lnOf}
@@ -24,7 +22,7 @@ use Rattle.arithmetic.proofs.Literals.{finite-700, finite-minus-700, finite-1, 
 use Rattle.search.proofs.Tests.{by}
 use Rattle.bounds.proofs.Fractions.{holds}
 use Rattle.bounds.proofs.Rounding.{round-anti, signs-apart}
-use Rattle.bounds.proofs.Interval.{Interval, In, interval, tested, known, in-known, pick, lesser, greater, hull, across, _▶_, lies}
+use Rattle.bounds.proofs.Interval.{interval, tested, known, in-known, pick, lesser, greater, hull, across, _▶_, lies}
 use Rattle.bounds.proofs.Sum.{_⊞_, _⊟_, negated}
 use Rattle.bounds.proofs.Product.{_⊠_, productBy, scaled, fourProducts}
 use Rattle.bounds.proofs.Quotient.{_÷_, quotients, onlyIf}

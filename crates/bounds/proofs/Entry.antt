@@ -1,8 +1,7 @@
 -- A fluid's entry passes one computed test, its whole range worked as one interval, and then no value of V, K, Q and the
 -- properties is anything but finite in that range: isobaric heat capacity where Q is not under 2⁻²¹⁵, and the three with ln δ where δ is not
 -- under 2⁻⁶⁰.
-use mathlib.Core.Path.{_≡_}
-use mathlib.Core.Bool.{Bool, true, false, _&&_}
+use mathlib.Core.Bool.{Bool, _&&_}
 use lib.Dec.{T}
 use lib.Ieee.{Float, ofInt, round, le}
 use lib.Ieee.Fits.{and-l, and-r}

@@ -1,13 +1,13 @@
 -- The three saturation estimates never refuse with 12: θ = 1 − T/Tc is 0 or at least 2⁻⁵⁴, so ln θ has a value wherever a power asks for
 -- it, and the whole range is worked as one interval.
 use mathlib.Core.Path.{_≡_, refl, sym, ap, _∙_, subst}
-use mathlib.Core.Logic.{_⊎_, inl, inr}
-use mathlib.Core.Bool.{Bool, true, false, _&&_, _||_}
+use mathlib.Core.Logic.{inl, inr}
+use mathlib.Core.Bool.{Bool, false, _&&_}
 use mathlib.Core.List.{List, [], _∷_}
-use Prim.Native.Nat.{ℕ, zero, suc, _+_, _*_, _^_, _≤_}
+use Prim.Native.Nat.{ℕ, zero, suc, _+_}
 use lib.Dec.{T}
 use lib.ListN.{getD}
-use lib.Ieee.{Float, nan, inf, fin, binary64, fits, ofInt, round, le, lt, eq, neg, add, sub}
+use lib.Ieee.{Float, nan, fin, binary64, fits, ofInt, round, le, lt, eq, neg, add}
 use lib.Ieee.Fits.{and-l, and-r, neg-fits}
 use lib.Ieee.Scale.{finite}
 use Rattle.refusals.specs.declared.Refusal.the-variants.{InputNotFinite, TemperatureOutside, AboveCritical, WorkNotFinite}
@@ -15,7 +15,7 @@ use Rattle.refusals.specs.declared.Permit.the-variants.{Granted, Denied}
 use Rattle.refusals.specs.declared.Answer.the-variants.{Refused}
 use Rattle.refusals.specs.Order.{firstOf}
 use Rattle.refusals.proofs.Needed.{test-passed, rest-granted}
-use Rattle.arithmetic.specs.Checked.{real, two⁻, squash, between, _⊕_, _⊖_, _⊗_, _⊘_}
+use Rattle.arithmetic.specs.Checked.{real, two⁻, between, _⊖_, _⊘_}
 use Rattle.arithmetic.specs.Ln.{lnOf}
 use Rattle.arithmetic.proofs.Forced.{forced}
 use Rattle.arithmetic.proofs.Order as tests

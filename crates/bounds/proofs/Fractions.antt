@@ -4,8 +4,8 @@ use mathlib.Core.Logic.{_⊎_, inl, inr}
 use Prim.Native.Nat.{ℕ, _+_, _*_, _≤_}
 use native.Mathlib.Nat.{add-mul, mul-add, mul-assoc, mul-comm, mul-left-comm, add-assoc, add-comm, add-left-comm, le-of-eq, le-of-lt, mul-le-mul-right, le-of-mul-le-mul-right, eq-zero-or-pos, eq-or-lt-of-le, lt-of-not-le}
 use native.Mathlib.Omega.{arith}
-use mathlib.Core.Bool.{Bool, true, false, not, _&&_, _||_}
-use lib.Dec.{T, ltb, eqb, eqb→eq, eqb-refl, ltb→lt, lt→ltb, nltb→le, not-T}
+use mathlib.Core.Bool.{Bool, true, false, _&&_, _||_}
+use lib.Dec.{T, ltb, eqb, eqb→eq, eqb-refl, ltb→lt, lt→ltb}
 use lib.Ieee.{Float, nan, inf, fin, up, down, le, lt}
 use lib.Ieee.Fits.{and-i, and-l, and-r}
 use lib.Ieee.Positive.{den, den-pos}

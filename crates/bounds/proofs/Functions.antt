@@ -5,7 +5,7 @@ use Prim.Native.Nat.{ℕ, zero, suc, _^_}
 use lib.Dec.{T}
 use lib.Ieee.{Float, eq, le}
 use lib.Ieee.Scale.{finite}
-use Rattle.arithmetic.specs.Checked.{real, two⁻, minus, within, _⊕_, _⊗_, _⊘_}
+use Rattle.arithmetic.specs.Checked.{real, two⁻, minus, within, _⊗_}
 use Rattle.arithmetic.specs.Exp.{expSteps, squared, expWork, expOf}
 use Rattle.arithmetic.specs.Ln.{lnOf}
 use Rattle.arithmetic.specs.Root.{rootSteps, rootOf}

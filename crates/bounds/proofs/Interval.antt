@@ -1,12 +1,12 @@
 -- Intervals with binary64 ends. `In I x` says that x is finite and lies in I; of `unknown` it says nothing.
-use mathlib.Core.Path.{_≡_, refl, sym, subst}
+use mathlib.Core.Path.{_≡_, refl}
 use mathlib.Core.Logic.{_⊎_, inl, inr}
 use mathlib.Core.Bool.{Bool, true, false, _&&_}
 use lib.Dec.{T}
 use lib.Ieee.{Float, nan, inf, fin, le}
 use lib.Ieee.Fits.{and-l, and-r}
 use lib.Ieee.Scale.{finite}
-use Rattle.arithmetic.specs.Checked.{squash, between}
+use Rattle.arithmetic.specs.Checked.{squash}
 use Rattle.bounds.proofs.Fractions.{Le, order-of-test, test-of-order, Le-total, Le-trans, Le-refl, between-finite}
 
 pub data Interval : Type 0 where

@@ -1,26 +1,26 @@
 -- ln of a value in an interval: of x = m·2ᵉ the exponent e lies between those of the ends, and m between theirs where they
 -- have the same exponent, else from 0.75 to 1.5.
-use mathlib.Core.Path.{_≡_, refl, sym, ap, _∙_, subst}
-use mathlib.Core.Bool.{Bool, true, false, not, _&&_, _||_, cond}
-use Prim.Native.Nat.{ℕ, zero, suc, _+_, _*_, _/_, _%_, _^_, _≤_, _<_}
-use native.Mathlib.Nat.{le-trans, le-of-lt, mul-le-mul-right, mul-le-mul, mul-pos, le-of-mul-le-mul-right, pow-succ', pow-suc}
+use mathlib.Core.Path.{_≡_, refl, sym, ap, subst}
+use mathlib.Core.Bool.{Bool, true, false, not, _&&_}
+use Prim.Native.Nat.{ℕ, zero, suc, _+_, _*_, _^_, _≤_, _<_}
+use native.Mathlib.Nat.{mul-le-mul-right, mul-le-mul, mul-pos, le-of-mul-le-mul-right, pow-succ', pow-suc}
 use native.Mathlib.Omega.{arith}
-use lib.Dec.{T, leb, leb→le, le→leb, ltb, ltb→lt, nltb→le, lit≤, lit<}
+use lib.Dec.{T, leb, leb→le, le→leb, ltb, ltb→lt, nltb→le, lit<}
 use lib.IntN.{ℤ, pos, negsuc}
 use lib.Pow.{pow-pos, pow-add, pow-mono}
 use lib.Ieee.{Float, fin, binary64, up, down, fits, round, ofInt, le, lt}
 use lib.Ieee.Fits.{up-pos, down-pos, and-l, and-r}
 use lib.Ieee.Order.{round-mono}
-use lib.Ieee.Positive.{num, den, positive, den-pos, positive-finite, le→cross, cross→le, between}
+use lib.Ieee.Positive.{num, den, positive, den-pos, le→cross, cross→le, between}
 use lib.Ieee.Scale.{finite}
-use Rattle.arithmetic.specs.Checked.{real, _e-_, two⁻, within, _⊕_, _⊖_, _⊗_, _⊘_}
-use Rattle.arithmetic.specs.Ln.{Split, digits, field, mField, mOf, eOf, lnSteps, lnWork, lnOf}
+use Rattle.arithmetic.specs.Checked.{real, _e-_, two⁻}
+use Rattle.arithmetic.specs.Ln.{Split, mOf, eOf, lnSteps, lnWork, lnOf}
 use Rattle.arithmetic.proofs.Forced.{forced}
 use Rattle.arithmetic.proofs.Literals.{finite-075, finite-15, finite-two⁻60, finite-two60}
 use Rattle.arithmetic.proofs.Split.{split-holds, m-low, m-high}
 use Rattle.arithmetic.proofs.Order.{lt-le}
 use Rattle.arithmetic.proofs.Within.{within-in}
-use Rattle.bounds.proofs.Fractions.{is-true, Le, order-of-test, test-of-order, Le-total, Le-trans, between-finite}
+use Rattle.bounds.proofs.Fractions.{is-true, order-of-test, test-of-order, Le-trans, between-finite}
 use Rattle.bounds.proofs.Rounding.{round-anti, signs-apart}
 use Rattle.bounds.proofs.Interval.{Interval, unknown, ends, Inside, In, anything, inside, interval, tested, result-in, unsquash-in, point, at, hull, hull-left, hull-right, _▶_, computed, lies, lies-in}
 use Rattle.bounds.proofs.Sum.{_⊞_, _⊟_, _⟨⊕⟩_, _⟨⊖⟩_}

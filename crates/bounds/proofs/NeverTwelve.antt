@@ -3,7 +3,6 @@
 use mathlib.Core.Path.{_≡_}
 use lib.Dec.{T}
 use lib.Ieee.{Float}
-use lib.Ieee.Scale.{finite}
 use Rattle.refusals.specs.declared.Refusal.the-variants.{WorkNotFinite}
 use Rattle.refusals.specs.declared.Permit.the-variants.{Granted}
 use Rattle.refusals.specs.declared.Answer.the-variants.{Number, Refused}

@@ -2,21 +2,20 @@
 -- 2⁻⁶⁰: there ln δ has no value, and elsewhere the entry's test has shown a number.
 use mathlib.Core.Path.{_≡_, refl, sym, ap, _∙_, subst}
 use mathlib.Core.Logic.{_↔_}
-use mathlib.Core.Bool.{Bool, true, false, not, cond, _&&_}
+use mathlib.Core.Bool.{Bool, true, false, not}
 use mathlib.Core.List.{[], _∷_}
-use Prim.Native.Nat.{ℕ, _^_}
+use Prim.Native.Nat.{ℕ}
 use native.Mathlib.Omega.{arith}
 use lib.Dec.{T}
-use lib.Ieee.{Float, nan, inf, fin, le, lt, eq, isNan, round}
+use lib.Ieee.{Float, nan, fin, le, eq, isNan, round}
 use lib.Ieee.Scale.{finite}
 use Rattle.refusals.specs.declared.Refusal.the-variants.{AtZeroDensity, WorkNotFinite}
 use Rattle.refusals.specs.declared.Permit.{Permit}
 use Rattle.refusals.specs.declared.Permit.the-variants.{Granted, Denied}
-use Rattle.refusals.specs.declared.Answer.{Answer}
 use Rattle.refusals.specs.declared.Answer.the-variants.{Refused}
 use Rattle.refusals.specs.Order.{firstOf, permitted}
 use Rattle.refusals.proofs.Needed.{test-passed, also, first-of-both, permitted-granted}
-use Rattle.arithmetic.specs.Checked.{real, two⁻, between, _⊕_, _⊖_, _⊗_}
+use Rattle.arithmetic.specs.Checked.{real, two⁻, _⊕_, _⊖_}
 use Rattle.arithmetic.specs.Ln.{lnOf}
 use Rattle.arithmetic.specs.Calls.{outcomeOf}
 use Rattle.arithmetic.proofs.Operations.{nan-⊕, nan-⊖}
@@ -24,9 +23,9 @@ use Rattle.arithmetic.proofs.Zeros.{times-nan, plus-nan}
 use Rattle.arithmetic.proofs.Order.{lt-of-not-le, not-le-of-lt}
 use Rattle.fluids.specs.Fluid.{Fluid}
 use Rattle.equation.specs.Ideal.{I0}
-use Rattle.equation.specs.Values.{τ, δ, i0, entropyValue, gibbsValue, helmholtzValue}
+use Rattle.equation.specs.Values.{δ, i0, entropyValue, gibbsValue, helmholtzValue}
 use Rattle.equation.specs.Calls.{workedDensity, stateTests, statePermit, potentialPermit, entropyOf, gibbsOf, helmholtzOf}
-use Rattle.search.proofs.Tests.{by, clash}
+use Rattle.search.proofs.Tests.{by}
 use Rattle.bounds.proofs.Fractions.{holds}
 use Rattle.bounds.specs.NoAnswer.{SmallDensity}
 use Rattle.bounds.proofs.Entry.{passes, Finite}

@@ -3,7 +3,7 @@
 use mathlib.Core.Path.{_≡_, refl, ap₂}
 use mathlib.Core.Logic.{_⊎_, inl, inr}
 use Prim.Native.Nat.{ℕ, _+_, _*_, _≤_, _<_}
-use native.Mathlib.Nat.{le-trans, le-of-eq, mul-le-mul-left, mul-le-mul, le-of-mul-le-mul-right, mul-pos, mul-comm}
+use native.Mathlib.Nat.{le-trans, le-of-eq, mul-le-mul-left, le-of-mul-le-mul-right, mul-pos, mul-comm}
 use native.Mathlib.Omega.{arith}
 use mathlib.Core.Bool.{Bool, true, false}
 use lib.Dec.{T}
@@ -11,10 +11,10 @@ use lib.Ieee.{Float, nan, inf, fin, binary64, up, down, round, mul, le}
 use lib.Ieee.Fits.{down-pos}
 use lib.Ieee.Positive.{den, den-pos}
 use lib.Ieee.Scale.{finite}
-use Rattle.arithmetic.specs.Checked.{squash, _⊗_}
+use Rattle.arithmetic.specs.Checked.{_⊗_}
 use Rattle.bounds.proofs.Fractions.{chain, rearranged, plus, less, Le}
 use Rattle.bounds.proofs.Rounding.{Rounds, rounds-mono, rounds-same, product-rounds}
-use Rattle.bounds.proofs.Interval.{Interval, unknown, ends, Inside, In, anything, inside, interval, result-in, squash-in, unsquash-in, pick, hull, hull-left, hull-right, across, across-left, across-right, Amid, amid-in}
+use Rattle.bounds.proofs.Interval.{Interval, unknown, ends, Inside, In, anything, inside, interval, result-in, unsquash-in, pick, hull, hull-left, hull-right, across, across-left, across-right, Amid, amid-in}
 
 infixl 70 _⊠_
 infixl 70 _⟨⊗⟩_

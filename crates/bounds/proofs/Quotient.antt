@@ -1,16 +1,15 @@
 -- A quotient of values in intervals lies between two quotients of the ends, chosen by the dividend's signs, where the divisor's lower end is above 0.
 use mathlib.Core.Path.{_≡_, refl, subst}
-use mathlib.Core.Logic.{_⊎_, inl, inr}
 use Prim.Native.Nat.{ℕ, _+_, _*_, _≤_, _<_}
-use native.Mathlib.Nat.{le-trans, le-of-eq, mul-le-mul-left, mul-le-mul, mul-pos}
+use native.Mathlib.Nat.{le-trans, le-of-eq, mul-le-mul-left, mul-pos}
 use native.Mathlib.Omega.{arith}
 use mathlib.Core.Bool.{Bool, true, false}
 use lib.Dec.{T, ltb→lt, lt→ltb}
-use lib.Ieee.{Float, fin, binary64, up, down, div, le}
+use lib.Ieee.{Float, fin, binary64, up, div, le}
 use lib.Ieee.Fits.{up-pos, down-pos}
-use lib.Ieee.Positive.{den, den-pos, positive, positive-finite, first-pos}
+use lib.Ieee.Positive.{den, den-pos, positive, first-pos}
 use lib.Ieee.Scale.{finite}
-use Rattle.arithmetic.specs.Checked.{squash, _⊘_}
+use Rattle.arithmetic.specs.Checked.{_⊘_}
 use Rattle.bounds.proofs.Fractions.{chain, rearranged, plus, less, Le}
 use Rattle.bounds.proofs.Rounding.{Rounds, rounds-mono, quotient-rounds}
 use Rattle.bounds.proofs.Interval.{Interval, unknown, ends, Inside, In, anything, inside, interval, result-in, pick}

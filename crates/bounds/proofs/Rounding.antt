@@ -1,17 +1,16 @@
 -- A sum, a product and a quotient are fractions (p − n) / c rounded, and rounding keeps the order of fractions, whatever the signs.
-use mathlib.Core.Path.{_≡_, refl, sym, ap, _∙_, subst, subst₂}
+use mathlib.Core.Path.{_≡_, refl, sym, ap, _∙_, subst₂}
 use mathlib.Core.Logic.{_⊎_, inl, inr}
-use Prim.Native.Nat.{ℕ, zero, suc, _+_, _-_, _*_, _^_, _≤_, _<_, zero-le}
-use native.Mathlib.Nat.{le-trans, le-of-eq, le-of-lt, mul-le-mul-right, mul-le-mul, le-of-mul-le-mul-right, mul-pos}
+use Prim.Native.Nat.{ℕ, zero, suc, _+_, _-_, _*_, _^_, _≤_, _<_}
+use native.Mathlib.Nat.{mul-le-mul-right, le-of-mul-le-mul-right}
 use native.Mathlib.Omega.{arith}
-use mathlib.Core.Bool.{Bool, true, false, not, _&&_, _||_, cond, Bool·beq, true≢false}
+use mathlib.Core.Bool.{Bool, true, false, not, _&&_, cond, true≢false}
 use lib.IntN.{ℤ}
 use lib.Dec.{T, ltb, eqb, eqb→eq, ltb→lt, nltb→le}
 use lib.Pow.{pow-pos}
 use lib.Ieee.{Float, nan, inf, fin, Format, emax, low, prec, up, down, odd, units, round, sum, add, mul, div, neg, le}
-use lib.Ieee.Fits.{round-is, up-pos, down-pos}
 use lib.Ieee.Exact.{HasValue, round-exact}
-use lib.Ieee.Positive.{den, den-pos, positive}
+use lib.Ieee.Positive.{den, positive}
 use lib.Ieee.Scale.{finite}
 use lib.Ieee.Order.{round-mono}
 use Rattle.bounds.proofs.Fractions.{plus, less, Le, order-of-test, test-of-order}

@@ -1,5 +1,5 @@
 -- A term's A, q, r, f, g at δ and τ in intervals, and the six sums over a table, lie in the intervals worked by the same formulas.
-use mathlib.Core.Path.{_≡_, refl, sym, subst}
+use mathlib.Core.Path.{_≡_, refl}
 use mathlib.Core.List.{List, [], _∷_, map}
 use Prim.Native.Nat.{ℕ, zero, suc, _<_, _≤_}
 use native.Mathlib.Nat.{not-suc-le-zero, le-of-suc-le-suc, le-of-lt, le-refl}
@@ -8,8 +8,7 @@ use lib.Dec.{T}
 use lib.IntN.{pos}
 use lib.Ieee.{Float, nan, binary64, fits}
 use lib.Ieee.Fits.{ofInt-fits}
-use Rattle.arithmetic.specs.Checked.{real, squash, minus, _⊕_, _⊖_, _⊗_, _⊘_}
-use Rattle.arithmetic.specs.Exp.{expOf}
+use Rattle.arithmetic.specs.Checked.{real, squash, _⊗_, _⊘_}
 use Rattle.arithmetic.specs.Ln.{lnOf}
 use Rattle.arithmetic.specs.Power.{_↑_}
 use Rattle.arithmetic.proofs.Forced.{forced}
@@ -21,7 +20,7 @@ use Rattle.equation.specs.declared.rows.Row.{Row}
 use Rattle.equation.specs.declared.kept.Kept.{Kept}
 use Rattle.equation.specs.declared.sums.Sums.{Sums}
 use Rattle.equation.specs.Rows.{exponentOf, powerAt, bellAt, xAt, rowAt}
-use Rattle.equation.specs.Sums.{rowFirst, sumsFirst, noSums, addRow, rowOf, sumsTo}
+use Rattle.equation.specs.Sums.{rowFirst, sumsFirst, addRow, rowOf, sumsTo}
 use Rattle.equation.specs.Kept.{keptOf, sumsAt}
 use Rattle.bounds.proofs.Interval.{Interval, In, point, at, squash-in, _▶_, computed}
 use Rattle.bounds.proofs.Representable.{sum-fits}

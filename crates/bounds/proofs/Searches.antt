@@ -1,17 +1,16 @@
 -- The theorems about the density searches without their provisos: at a permitted temperature every pressure of a step in range is a
 -- number, so a preparation never fails in lists long enough, the plain search from below refuses exactly if no coarse cell rises
 -- across P, and then with 8, its answers enclose P, and no search meets 12.
-use mathlib.Core.Path.{_≡_, refl, sym, ap, _∙_, subst}
-use mathlib.Core.Logic.{_↔_, _⊎_, inl, inr}
+use mathlib.Core.Path.{_≡_, refl, sym, ap, _∙_}
+use mathlib.Core.Logic.{_↔_}
 use mathlib.Core.List.{List, [], _∷_}
 use mathlib.Core.Bool.{Bool, true, false, not, _&&_}
-use Prim.Native.Nat.{ℕ, zero, suc, _+_, _*_, _^_, _≤_, _<_}
-use native.Mathlib.Nat.{le-trans, mul-le-mul-right}
+use Prim.Native.Nat.{ℕ, _^_, _≤_}
 use native.Mathlib.Omega.{arith}
-use borrow.Author.Tests.{leb-true, ltb-true}
-use lib.Dec.{T, leb, ltb, lit<}
+use borrow.Author.Tests.{leb-true}
+use lib.Dec.{T, leb, lit<}
 use lib.ListN.{length}
-use lib.Ieee.{Float, binary64, ofInt, round, mul, le, lt, isNan}
+use lib.Ieee.{Float, ofInt, round, mul, le, lt, isNan}
 use lib.Ieee.Fits.{and-i}
 use lib.Ieee.Exact.{HasValue}
 use lib.Ieee.Order.{le-of-values}
@@ -20,19 +19,18 @@ use Rattle.refusals.specs.declared.Refusal.{Refusal}
 use Rattle.refusals.specs.declared.Refusal.the-variants.{InputNotFinite, TemperatureOutside, PressureOutside, TopOutside, TooShort, NoCell, NotEnclosed, NotNeighbours, WorkNotFinite}
 use Rattle.refusals.specs.declared.Permit.{Permit}
 use Rattle.refusals.specs.declared.Permit.the-variants.{Granted, Denied}
-use Rattle.arithmetic.specs.Checked.{real, two⁻, between}
+use Rattle.arithmetic.specs.Checked.{real, between}
 use Rattle.arithmetic.proofs.Order.{le-of-not-lt, not-le-of-lt, le-lt-trans}
 use Rattle.fluids.specs.R245ca.{r245ca}
 use Rattle.fluids.proofs.Limits.{r245ca-cells}
 use Rattle.equation.specs.Kept.{keptOf}
 use Rattle.equation.specs.Values.{pressureValue}
 use Rattle.search.specs.declared.Place.{Place}
-use Rattle.search.specs.declared.Place.the-variants.{At}
 use Rattle.search.specs.Plain.{endStep, atEnds}
 use Rattle.search.proofs.GreatestAndLeast.{Numbers}
 use Rattle.search.proofs.ExactlyEight.{NoCellEncloses}
 use Rattle.search.proofs.ExactlyEight as any
-use Rattle.search.proofs.Tests.{by, clash, and-passed}
+use Rattle.search.proofs.Tests.{clash, and-passed}
 use Rattle.density.specs.declared.Side.{Side}
 use Rattle.density.specs.declared.Side.the-variants.{FromBelow, FromAbove}
 use Rattle.density.specs.declared.Word.{Word}

@@ -2,40 +2,36 @@
 -- refuses exactly where the root's argument leaves 1 .. 10⁸. Isobaric heat capacity answers unless 1 + 2·S1 is exactly 0 and Q, which is
 -- S2 then, lies under 2⁻²¹⁵: a sum of two binary64 numbers is 0 or not very small.
 use mathlib.Core.Path.{_≡_, refl, sym, ap, _∙_, subst}
-use mathlib.Core.Logic.{_↔_, _⊎_, inl, inr}
+use mathlib.Core.Logic.{_↔_, inl, inr}
 use mathlib.Core.Bool.{Bool, true, false, not, cond, _&&_}
-use mathlib.Core.List.{[], _∷_}
-use Prim.Native.Nat.{ℕ, zero, suc, _+_, _*_, _^_, _≤_}
+use Prim.Native.Nat.{ℕ, _^_}
 use native.Mathlib.Omega.{arith}
-use lib.Dec.{T, lit≤}
-use lib.IntN.{pos}
-use lib.Ieee.{Float, nan, inf, fin, binary64, fits, ofInt, round, add, neg, le, lt, eq, isNan}
-use lib.Ieee.Fits.{and-l, and-r}
-use lib.Ieee.Positive.{num, den}
+use lib.Dec.{T}
+use lib.Ieee.{Float, fin, binary64, fits, ofInt, round, add, neg, le, lt, eq}
+use lib.Ieee.Fits.{and-l}
 use lib.Ieee.Scale.{finite}
 use Rattle.refusals.specs.declared.Refusal.the-variants.{NotStable, WorkNotFinite}
 use Rattle.refusals.specs.declared.Permit.{Permit}
 use Rattle.refusals.specs.declared.Permit.the-variants.{Granted, Denied}
-use Rattle.refusals.specs.declared.Answer.{Answer}
-use Rattle.refusals.specs.declared.Answer.the-variants.{Number, Refused}
-use Rattle.refusals.specs.Order.{firstOf, permitted}
-use Rattle.refusals.proofs.Needed.{test-passed, rest-granted, permitted-granted}
-use Rattle.arithmetic.specs.Checked.{real, two⁻, squash, between, _⊕_, _⊖_, _⊗_, _⊘_}
+use Rattle.refusals.specs.declared.Answer.the-variants.{Refused}
+use Rattle.refusals.specs.Order.{permitted}
+use Rattle.refusals.proofs.Needed.{test-passed}
+use Rattle.arithmetic.specs.Checked.{real, two⁻, between, _⊕_, _⊗_}
 use Rattle.arithmetic.specs.Root.{rootOf}
 use Rattle.arithmetic.specs.Calls.{outcomeOf}
 use Rattle.arithmetic.proofs.Order as tests
 use Rattle.fluids.specs.Fluid.{Fluid}
 use Rattle.equation.specs.Kept.{keptOf}
-use Rattle.equation.specs.Values.{δ, sums, «V», K, Q, isobaricValue, soundSpeedValue}
+use Rattle.equation.specs.Values.{sums, «V», K, Q, isobaricValue, soundSpeedValue}
 use Rattle.equation.specs.Calls.{workedDensity, stableOf, statePermit, stabilityPermit, isobaricOf, soundSpeedOf}
 use Rattle.search.proofs.Tests.{by}
 use Rattle.bounds.specs.NoAnswer.{StableState, rootArgument, VanishingQ}
-use Rattle.bounds.proofs.Fractions.{is-true, holds, plus, less, order-of-test}
+use Rattle.bounds.proofs.Fractions.{is-true, holds, order-of-test}
 use Rattle.bounds.proofs.Representable.{sum-fits, product-fits, sum-is, summands-finite}
 use Rattle.bounds.proofs.Rows.{s2-fits}
 use Rattle.bounds.proofs.Cancellation.{Large, Apart, zero-test, denominator, sum-apart, one-apart}
 use Rattle.bounds.proofs.Elementary.{root-in-range, root-outside}
-use Rattle.bounds.proofs.Entry.{passes, Finite}
+use Rattle.bounds.proofs.Entry.{passes}
 use Rattle.bounds.proofs.Permits.{refused-granted, state-denied}
 use Rattle.bounds.proofs.NeverTwelve.{finite-where-granted}
 

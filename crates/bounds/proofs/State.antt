@@ -1,20 +1,17 @@
 -- What is worked at a state, over intervals of T, ρ and δ, for any fluid: the ideal part, V, K, Q, and every property but sound speed.
-use mathlib.Core.Path.{_≡_, refl}
-use mathlib.Core.Bool.{Bool, true, false, _&&_}
+use mathlib.Core.Path.{_≡_}
 use mathlib.Core.List.{List}
 use Prim.Native.Nat.{ℕ, zero, suc}
 use lib.Dec.{T}
 use lib.ListN.{getD, length}
 use lib.Ieee.{Float, nan, binary64, round, fits, le}
 use lib.Ieee.Scale.{finite}
-use Rattle.arithmetic.specs.Checked.{real, _e-_, two⁻, squash, minus, _⊕_, _⊖_, _⊗_, _⊘_}
-use Rattle.arithmetic.specs.Exp.{expOf}
+use Rattle.arithmetic.specs.Checked.{real, two⁻, _⊕_, _⊖_, _⊗_, _⊘_}
 use Rattle.arithmetic.specs.Ln.{lnOf}
 use Rattle.arithmetic.proofs.Forced.{forced}
 use Rattle.arithmetic.proofs.Literals.{finite-two⁻60}
 use Rattle.fluids.specs.declared.Pair.{Pair}
 use Rattle.fluids.specs.Fluid.{Fluid}
-use Rattle.equation.specs.declared.sums.Sums.{Sums}
 use Rattle.equation.specs.Ideal.{part0, part1, part2, totalTo, I0, I1, I2}
 use Rattle.equation.specs.Kept.{keptOf, pressureAt}
 use Rattle.equation.specs.Values.{τ, δ, sums, i0, i1, «V», K, Q, pressureValue, energyValue, enthalpyValue, isochoricValue, entropyValue, gibbsValue, helmholtzValue, isobaricValue}

@@ -5,10 +5,10 @@ use native.Mathlib.Nat.{le-trans, le-of-eq, mul-le-mul-right, mul-pos, add-le-ad
 use native.Mathlib.Omega.{arith}
 use mathlib.Core.Bool.{true, false}
 use lib.Dec.{T}
-use lib.Ieee.{Float, nan, inf, fin, binary64, add, sub, neg, le}
+use lib.Ieee.{Float, fin, binary64, add, sub, neg, le}
 use lib.Ieee.Positive.{den, den-pos}
 use lib.Ieee.Scale.{finite}
-use Rattle.arithmetic.specs.Checked.{squash, minus, _⊕_, _⊖_}
+use Rattle.arithmetic.specs.Checked.{minus, _⊕_, _⊖_}
 use Rattle.bounds.proofs.Fractions.{rearranged, plus, less, Le}
 use Rattle.bounds.proofs.Rounding.{rounds-mono, sum-rounds}
 use Rattle.bounds.proofs.Interval.{Interval, unknown, ends, In, anything, inside, interval, result-in, squash-in}

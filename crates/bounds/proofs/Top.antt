@@ -1,16 +1,16 @@
 -- The pressure at the greatest density is above every pressure that may be asked for, at every temperature of the range: one computed test
 -- over slices of temperature, for any fluid's entry.
-use mathlib.Core.Path.{_≡_, refl, subst}
+use mathlib.Core.Path.{_≡_}
 use mathlib.Core.Bool.{Bool, true, false, _&&_}
 use lib.Dec.{T}
 use lib.Ieee.{Float, le, lt}
 use lib.Ieee.Fits.{and-l, and-r}
 use lib.Ieee.Scale.{finite}
-use Rattle.arithmetic.specs.Checked.{real, _e-_, _⊕_, _⊗_, _⊘_}
+use Rattle.arithmetic.specs.Checked.{real}
 use Rattle.arithmetic.proofs.Order.{lt-le-trans}
 use Rattle.fluids.specs.Fluid.{Fluid}
 use Rattle.equation.specs.Values.{δ, sums, pressureValue}
-use Rattle.bounds.proofs.Fractions.{is-true, Le, Le-total, test-of-order, between-finite}
+use Rattle.bounds.proofs.Fractions.{is-true, Le, Le-total, test-of-order}
 use Rattle.bounds.proofs.Interval.{Interval, unknown, ends, In, anything, inside, interval, tested, point, at, _▶_, computed}
 use Rattle.bounds.proofs.Sum.{_⊞_, _⟨⊕⟩_}
 use Rattle.bounds.proofs.Product.{_⊠_, _⟨⊗⟩_}
