@@ -136,11 +136,3 @@ between-finite (fin s m e) nan h p q a b = absurd a
 between-finite (fin s m e) (inf true) h p q a b = absurd a
 between-finite (fin s m e) (inf false) (fin t n d) p q a b = absurd b
 between-finite l (fin u k f) h p q a b = tt
-
--- ---- "strictly below" is "not above"
-pub not-below : (x a : Float) → T (lt x a) → T (finite x) → T (finite a) → Le a x → ⊥
-unfolding lt
-not-below (fin false m e) (fin false n d) t p q h = let k = ltb→lt (m * up e * down d) (n * up d * down e) t in omega arith
-not-below (fin false m e) (fin true n d) t p q h = t
-not-below (fin true m e) (fin false n d) t p q h = let k = ltb→lt 0 (m * up e * down d + n * up d * down e) t in omega arith
-not-below (fin true m e) (fin true n d) t p q h = let k = ltb→lt (n * up d * down e) (m * up e * down d) t in omega arith

@@ -22,34 +22,22 @@ unfolding r245ca interval pick lesser greater hull across fromOn _▶_ lies _⊞
 r245ca-passes = tt
 
 -- five slices of temperature
-from-196 : T (slice r245ca (real 196) (real 213))
+from-196-to-283 : T (slice r245ca (real 196) (real 213)) × T (slice r245ca (real 213) (real 240)) × T (slice r245ca (real 240) (real 283))
 unfolding r245ca interval pick lesser greater hull across fromOn _▶_ lies _⊞_ _⊟_ negated _⊠_ productBy scaled fourProducts _÷_ quotients onlyIf expOver expStepsOver squaredOver _⇈_ lnOver lnBy lnLowest lnHighest lnBetween before lnWorkOver lnStepsOver powerAtOver bellAtOver xAtOver rowAtOver termOver s1ToOver s1Over pressureOver mOf eOf minus fits toBits ofBits ofInt round le lt eq neg add sub mul div
-from-196 = tt
+from-196-to-283 = (tt, tt, tt)
 
-from-213 : T (slice r245ca (real 213) (real 240))
+from-283-to-450 : T (slice r245ca (real 283) (real 345)) × T (slice r245ca (real 345) (real 450))
 unfolding r245ca interval pick lesser greater hull across fromOn _▶_ lies _⊞_ _⊟_ negated _⊠_ productBy scaled fourProducts _÷_ quotients onlyIf expOver expStepsOver squaredOver _⇈_ lnOver lnBy lnLowest lnHighest lnBetween before lnWorkOver lnStepsOver powerAtOver bellAtOver xAtOver rowAtOver termOver s1ToOver s1Over pressureOver mOf eOf minus fits toBits ofBits ofInt round le lt eq neg add sub mul div
-from-213 = tt
-
-from-240 : T (slice r245ca (real 240) (real 283))
-unfolding r245ca interval pick lesser greater hull across fromOn _▶_ lies _⊞_ _⊟_ negated _⊠_ productBy scaled fourProducts _÷_ quotients onlyIf expOver expStepsOver squaredOver _⇈_ lnOver lnBy lnLowest lnHighest lnBetween before lnWorkOver lnStepsOver powerAtOver bellAtOver xAtOver rowAtOver termOver s1ToOver s1Over pressureOver mOf eOf minus fits toBits ofBits ofInt round le lt eq neg add sub mul div
-from-240 = tt
-
-from-283 : T (slice r245ca (real 283) (real 345))
-unfolding r245ca interval pick lesser greater hull across fromOn _▶_ lies _⊞_ _⊟_ negated _⊠_ productBy scaled fourProducts _÷_ quotients onlyIf expOver expStepsOver squaredOver _⇈_ lnOver lnBy lnLowest lnHighest lnBetween before lnWorkOver lnStepsOver powerAtOver bellAtOver xAtOver rowAtOver termOver s1ToOver s1Over pressureOver mOf eOf minus fits toBits ofBits ofInt round le lt eq neg add sub mul div
-from-283 = tt
-
-from-345 : T (slice r245ca (real 345) (real 450))
-unfolding r245ca interval pick lesser greater hull across fromOn _▶_ lies _⊞_ _⊟_ negated _⊠_ productBy scaled fourProducts _÷_ quotients onlyIf expOver expStepsOver squaredOver _⇈_ lnOver lnBy lnLowest lnHighest lnBetween before lnWorkOver lnStepsOver powerAtOver bellAtOver xAtOver rowAtOver termOver s1ToOver s1Over pressureOver mOf eOf minus fits toBits ofBits ofInt round le lt eq neg add sub mul div
-from-345 = tt
+from-283-to-450 = (tt, tt)
 
 pub r245ca-rises : Rises r245ca (r245ca .leastT) (r245ca .greatestT)
 unfolding r245ca ofInt round
 r245ca-rises =
-    joined r245ca (real 196) (real 213) (real 450) tt (slice-rises r245ca (real 196) (real 213) from-196)
-    (joined r245ca (real 213) (real 240) (real 450) tt (slice-rises r245ca (real 213) (real 240) from-213)
-    (joined r245ca (real 240) (real 283) (real 450) tt (slice-rises r245ca (real 240) (real 283) from-240)
-    (joined r245ca (real 283) (real 345) (real 450) tt (slice-rises r245ca (real 283) (real 345) from-283)
-    (slice-rises r245ca (real 345) (real 450) from-345))))
+    joined r245ca (real 196) (real 213) (real 450) tt (slice-rises r245ca (real 196) (real 213) (from-196-to-283 .0))
+    (joined r245ca (real 213) (real 240) (real 450) tt (slice-rises r245ca (real 213) (real 240) (from-196-to-283 .1))
+    (joined r245ca (real 240) (real 283) (real 450) tt (slice-rises r245ca (real 240) (real 283) (from-196-to-283 .2))
+    (joined r245ca (real 283) (real 345) (real 450) tt (slice-rises r245ca (real 283) (real 345) (from-283-to-450 .0))
+    (slice-rises r245ca (real 345) (real 450) (from-283-to-450 .1)))))
 
 -- the saturation estimates
 pub r245ca-estimate-ends : T (estimateEnds r245ca)

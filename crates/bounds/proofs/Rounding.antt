@@ -205,6 +205,3 @@ neg-neg (fin false m e) = refl
 pub rounds-flip : (f : Format) (x : Float) (p n c : ℕ) → Rounds f x p n c → Rounds f (neg x) n p c
 rounds-flip f x p n c (inl (h, e)) = inr (h, ap neg e ∙ sym (round-neg f (p - n) c))
 rounds-flip f x p n c (inr (h, e)) = inl (h, ap neg (e ∙ round-neg f (n - p) c) ∙ neg-neg (round f false (n - p) c))
-
-pub product-of-positive : (f : Format) (x y : Float) → T (finite x) → T (finite y) → less x ≡ 0 → less y ≡ 0 → Rounds f (mul f x y) (plus x * plus y) 0 (den x * den y)
-product-of-positive f x y p q e g = rounds-same f _ _ _ _ _ _ (rw (e, g) (omega arith)) (rw (e, g) (omega arith)) (product-rounds f x y p q)

@@ -120,9 +120,6 @@ module _ (F : Fluid) (ok : T (passes F)) (t ρ : Float) where
   )
 
   -- ---- isobaric heat capacity
-  q-number : statePermit F t ρ ≡ Granted → T (finite (Q F t (workedDensity ρ)))
-  q-number g = finite-where-granted F ok t ρ g .q
-
   abbrev firstOfQ : Float
   firstOfQ = real 1 ⊕ real 2 ⊗ sums F t (workedDensity ρ) .s1
 
