@@ -65,11 +65,11 @@ search-calls = record {
 }
 
 -- ---- the codes: a permit denies with one of its tests' refusals
-abbrev AllOf : List ℕ → List (Bool × Refusal) → Type 0
+abbrev pub AllOf : List ℕ → List (Bool × Refusal) → Type 0
 AllOf codes [] = Unit
 AllOf codes (test ∷ tests) = OneOf (codeOf (test .1)) codes × AllOf codes tests
 
-denied-code : (codes : List ℕ) (tests : List (Bool × Refusal)) → AllOf codes tests → (r : Refusal) → firstOf tests ≡ Denied r → OneOf (codeOf r) codes
+pub denied-code : (codes : List ℕ) (tests : List (Bool × Refusal)) → AllOf codes tests → (r : Refusal) → firstOf tests ≡ Denied r → OneOf (codeOf r) codes
 denied-code codes [] all r e = let z : _≡_ {A = ℕ} 0 1 = cc in absurd (omega arith)
 denied-code codes (x ∷ xs) (here, there) r e = go (x .0) (denied-code codes xs there r) e
   where
@@ -78,7 +78,7 @@ denied-code codes (x ∷ xs) (here, there) r e = go (x .0) (denied-code codes xs
     go false later e = let same : x .1 ≡ r = cc in subst (λ (y : Refusal). OneOf (codeOf y) codes) same here
 
 -- a permit is granted, or denies with a refusal
-by-permit : {X : Type 0} (p : Permit) → (p ≡ Granted → X) → ((r : Refusal) → p ≡ Denied r → X) → X
+pub by-permit : {X : Type 0} (p : Permit) → (p ≡ Granted → X) → ((r : Refusal) → p ≡ Denied r → X) → X
 by-permit Granted f g = f refl
 by-permit (Denied r) f g = g r refl
 
@@ -89,7 +89,7 @@ state-code t ρ =
     (λ g. inl (ap answerCodeOf (unfold pressureOf in pressure-answered r245ca r245ca-passes t ρ g)))
     (λ r d. rw d (inr (denied-code (2 ∷ 3 ∷ 4 ∷ []) (stateTests r245ca t ρ) (inl refl, (inr (inl refl), (inr (inr (inl refl)), tt))) r d)))
 
-top-permitted : topPermittedOf 1664 ≡ true
+pub top-permitted : topPermittedOf 1664 ≡ true
 unfolding topPermittedOf r245ca
 top-permitted = refl
 
