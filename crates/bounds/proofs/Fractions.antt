@@ -6,7 +6,7 @@ use native.Mathlib.Nat.{add-mul, mul-add, mul-assoc, mul-comm, mul-left-comm, ad
 use native.Mathlib.Omega.{arith}
 use mathlib.Core.Bool.{Bool, true, false, _&&_, _||_}
 use lib.Dec.{T, ltb, eqb, eqb→eq, eqb-refl, ltb→lt, lt→ltb}
-use lib.Ieee.{Float, nan, inf, fin, up, down, le, lt}
+use lib.Ieee.{Float, nan, inf, fin, up, down, le}
 use lib.Ieee.Fits.{and-i, and-l, and-r}
 use lib.Ieee.Positive.{den, den-pos}
 use lib.Ieee.Scale.{finite}

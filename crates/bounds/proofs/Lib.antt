@@ -6,6 +6,7 @@ pub mod Sum
 pub mod Product
 pub mod Quotient
 pub mod Functions
+pub mod Exponents
 pub mod Logarithm
 pub mod Rows
 pub mod State

@@ -9,7 +9,8 @@ use Rattle.bounds.proofs.Interval.{interval, pick, lesser, greater, hul
 use Rattle.bounds.proofs.Sum.{_⊞_, _⊟_, negated}
 use Rattle.bounds.proofs.Product.{_⊠_, productBy, scaled, fourProducts}
 use Rattle.bounds.proofs.Quotient.{_÷_, quotients, onlyIf}
-use Rattle.bounds.proofs.Logarithm.{lnOver, lnBy, lnLowest, lnHighest, lnBetween, before, lnWorkOver, lnStepsOver}
+use Rattle.bounds.proofs.Exponents.{before}
+use Rattle.bounds.proofs.Logarithm.{lnOver, lnBy, lnLowest, lnHighest, lnBetween, lnWorkOver, lnStepsOver}
 use Rattle.bounds.proofs.Rows.{powerAtOver, bellAtOver, xAtOver, rowAtOver, rowComputed, sumsComputed, addRowOver, termOver, sumsToOver, sumsOver, s1ToOver, s1Over}
 use Rattle.bounds.proofs.State.{part0Over, part1Over, part2Over, totalToOver, I0Over, I1Over, I2Over, finished, stateOver}
 use Rattle.bounds.proofs.Entry.{passes}
