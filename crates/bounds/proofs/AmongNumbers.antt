@@ -1,23 +1,26 @@
 -- Over any pressures that are all numbers up to the top: where the one at the top is above P and the one at density 0 is not, both
 -- plain searches find a step; and from above 8 comes exactly if the one at the top is not above P. The visits meet an end of the
--- kind that they look for, and in the cell nothing refuses.
+-- kind that they look for, and in the cell nothing refuses. The quick search does not meet 12, whatever its list holds.
 use mathlib.Core.Path.{_≡_, refl, sym, ap, _∙_, subst}
 use mathlib.Core.Logic.{_↔_}
-use mathlib.Core.Bool.{true, false}
+use mathlib.Core.Bool.{true, false, _&&_}
 use Prim.Native.Nat.{ℕ, zero, suc, _+_, _-_, _/_, _≤_, _<_}
 use native.Mathlib.Nat.{zero-add}
 use native.Mathlib.Omega.{arith}
 use lib.Dec.{eqb}
-use lib.Ieee.{Float, lt, le}
+use lib.Ieee.{Float, lt, le, isNan}
 use Rattle.refusals.specs.declared.Refusal.{Refusal}
-use Rattle.refusals.specs.declared.Refusal.the-variants.{NoCell, NotNeighbours, WorkNotFinite}
+use Rattle.refusals.specs.declared.Refusal.the-variants.{NoCell, NotEnclosed, NotNeighbours, WorkNotFinite}
 use Rattle.search.specs.declared.Place.{Place}
 use Rattle.search.specs.declared.Place.the-variants.{At, Refused}
 use Rattle.search.specs.Plain.{endStep, atEnds, visitUp, cellFromBelow, visitDown, cellFromAbove}
 use Rattle.search.specs.InCell.{halved, inCell}
-use Rattle.search.specs.Searches.{stepFromBelow, stepFromAbove}
+use Rattle.search.specs.Searches.{stepFromBelow, stepFromAbove, quickStep}
+use Rattle.search.specs.Quick.{above, halvedPlaces, enclosing, quickCell}
 use Rattle.search.proofs.Tests.{by}
 use Rattle.search.proofs.GreatestAndLeast.{Numbers}
+use Rattle.search.proofs.ListHalving.{halving-below}
+use Rattle.search.proofs.Encloses.{quick-cell-encloses}
 use Rattle.search.proofs.NeverNine.{found-not-refused, same-refusal, cell-refuses}
 
 abbrev pub HasStep : Place → Type 0
@@ -112,3 +115,31 @@ module _ (p : ℕ → Float) (P : Float) where
     pub above-refuses-exactly : (stepFromAbove p P c ≡ Refused NoCell) ↔ (le (p (endStep c)) P ≡ true)
     unfolding cellFromAbove inCell
     above-refuses-exactly = ((λ r. above-refuses NoCell r .1), (λ top. simp (num (endStep c) (omega arith), top)))
+
+-- ---- the quick search, whatever its list holds, does not meet 12
+not-12 : (e : Refusal) → e ≡ NoCell → e ≡ WorkNotFinite → ⊥
+not-12 e p q = let z : _≡_ {A = ℕ} 0 1 = cc in omega arith
+
+enclosing-not-12 : (q : ℕ → Float) (P : Float) (a : ℕ) → isNan (q a) ≡ false → isNan (q (a + 1)) ≡ false → enclosing q P a ≡ Refused WorkNotFinite → ⊥
+unfolding enclosing
+enclosing-not-12 q P a low high r =
+    by (le (q a) P && lt P (q (a + 1)))
+    (λ w. found-not-refused a WorkNotFinite (simp (low, high, w) at r))
+    (λ w. let other : Refused NotEnclosed ≡ Refused WorkNotFinite = simp (low, high, w) at r in let z : _≡_ {A = ℕ} 0 1 = cc in omega arith)
+
+module _ (f p : ℕ → Float) (P : Float) (c : ℕ) (some : 1 ≤ c) (num : Numbers p (endStep c)) where
+  quick-cell-not-12 : quickCell f (atEnds p) P c ≡ Refused WorkNotFinite → ⊥
+  unfolding quickCell
+  quick-cell-not-12 r =
+      let a = halvedPlaces (above P f) c 0 c in
+      let under : a < c = halving-below (above P f) c 0 c some in
+      by (lt P (f c))
+      (λ w. enclosing-not-12 (atEnds p) P a (ends-numbers p P c num a (omega arith)) (ends-numbers p P c num (a + 1) (omega arith)) (simp w at r))
+      (λ w. not-12 NoCell refl (same-refusal NoCell WorkNotFinite (simp w at r)))
+
+  pub quick-not-12 : quickStep f p P c ≡ Refused WorkNotFinite → ⊥
+  quick-not-12 r = go (quickCell f (atEnds p) P c) quick-cell-not-12 (λ j e. quick-cell-encloses (atEnds p) P c f some j e .below-top) r
+    where
+      go : (x : Place) → (x ≡ Refused WorkNotFinite → ⊥) → ((j : ℕ) → x ≡ At j → j < c) → inCell p P x ≡ Refused WorkNotFinite → ⊥
+      go (At j) n under r = let (k, e) = cell-found p P c num j (under j refl) in found-not-refused k WorkNotFinite (sym e ∙ r)
+      go (Refused d) n under r = n (unfold inCell in r)

@@ -19,7 +19,8 @@ use Rattle.density.specs.declared.Side.{Side}
 use Rattle.density.specs.Inputs.{temperaturePermittedOf, pressurePermittedOf, topPermittedOf, firstRefusalOf, searchInputsOf}
 use Rattle.density.specs.Calls.{plainOf}
 use Rattle.density.specs.Codes.{foundCodeOf}
-use Rattle.density.proofs.NeverNine.{plain-never-nine, plain-never-sixteen}
+use Rattle.density.proofs.NeverNine.{plain-never-nine, plain-never-sixteen, quick-call-never-nine}
+use Rattle.density.proofs.QuickIsPlain.{never-sixteen}
 use Rattle.bounds.specs.NoAnswer.{ElementaryCalls, PropertyCalls, EstimateCalls, SearchCalls, OneOf, Codes}
 use Rattle.bounds.proofs.R245ca.{r245ca-passes, r245ca-estimate-ends, r245ca-estimates}
 use Rattle.bounds.proofs.Elementary.{exponential-12, logarithm-12, square-root-12}
@@ -27,7 +28,7 @@ use Rattle.bounds.proofs.NeverTwelve.{pressure-never-12, energy-never-1
 use Rattle.bounds.proofs.Potentials.{entropy-12, gibbs-12, helmholtz-12}
 use Rattle.bounds.proofs.Stable.{sound-speed-12, isobaric-12}
 use Rattle.bounds.proofs.Estimates.{saturation-pressure-never-12, saturated-liquid-never-12, saturated-vapour-never-12}
-use Rattle.bounds.proofs.Searches.{prepared-always, from-below-exactly, from-above-exactly, only-eight, plain-never-12, quick-never-9, quick-never-12, quick-never-16, plain-encloses, every-question-answered}
+use Rattle.bounds.proofs.Searches.{prepared-always, from-below-exactly, from-above-exactly, only-eight, plain-never-12, quick-never-12, plain-encloses, every-question-answered}
 
 pub elementary-calls : ElementaryCalls
 elementary-calls = record { exponential = exponential-12; logarithm = logarithm-12; square-root = square-root-12 }
@@ -56,7 +57,8 @@ pub search-calls : SearchCalls
 search-calls = record {
   prepared = prepared-always;
   plain = λ t P c side. (plain-never-nine t P c side, plain-never-12 t P c side, plain-never-sixteen t P c side);
-  quick = λ t P c side g l ready. (quick-never-9 t P c side g l ready, quick-never-12 t P c side g l ready, quick-never-16 t P c side g l ready);
+  quick = λ t P c side g l. (quick-call-never-nine t P c side g l, quick-never-12 t P c side g l);
+  quick-prepared = λ t P c side g l ready. never-sixteen t c g l ready P side;
   from-below = from-below-exactly;
   from-above = from-above-exactly;
   only-8 = λ t P c side ok. only-eight t P c ok side;

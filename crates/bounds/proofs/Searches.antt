@@ -1,7 +1,7 @@
 -- The theorems about the density searches without their provisos: at a permitted temperature every pressure of a step in range is a
 -- number, so a preparation never fails in lists long enough, the plain search from below refuses exactly if no coarse cell rises
 -- across P, and then with 8, its answers enclose P, and no search meets 12.
-use mathlib.Core.Path.{_≡_, refl, sym, ap, _∙_}
+use mathlib.Core.Path.{_≡_, refl, ap, _∙_}
 use mathlib.Core.Logic.{_↔_}
 use mathlib.Core.List.{List, [], _∷_}
 use mathlib.Core.Bool.{Bool, true, false, not, _&&_}
@@ -16,7 +16,7 @@ use lib.Ieee.Exact.{HasValue}
 use lib.Ieee.Order.{le-of-values}
 use lib.Ieee.Scale.{finite}
 use Rattle.refusals.specs.declared.Refusal.{Refusal}
-use Rattle.refusals.specs.declared.Refusal.the-variants.{InputNotFinite, TemperatureOutside, PressureOutside, TopOutside, TooShort, NoCell, NotEnclosed, NotNeighbours, WorkNotFinite}
+use Rattle.refusals.specs.declared.Refusal.the-variants.{InputNotFinite, TemperatureOutside, PressureOutside, TopOutside, TooShort, NoCell, WorkNotFinite}
 use Rattle.refusals.specs.declared.Permit.{Permit}
 use Rattle.refusals.specs.declared.Permit.the-variants.{Granted, Denied}
 use Rattle.arithmetic.specs.Checked.{real, between}
@@ -42,11 +42,10 @@ use Rattle.density.specs.Inputs.{temperaturePermittedOf, pressurePermittedOf, t
 use Rattle.density.specs.Granted.{Question}
 use Rattle.density.specs.State.{stateWordOf, foundStateOf}
 use Rattle.density.specs.Steps.{stepDensityOf, stepPressureOf}
-use Rattle.density.specs.Calls.{pressuresOf, plainStepOf, searched, plainOf, prepareOf, greatestAfter, leastAfter, quickOf}
+use Rattle.density.specs.Calls.{pressuresOf, plainStepOf, searched, plainOf, entriesBy, quickStepOf, prepareOf, quickOf}
 use Rattle.density.proofs.StepExact.{step-exact}
 use Rattle.density.proofs.Permitted.{Passed, search-passed, question, prepare-passed}
-use Rattle.density.proofs.NeverNine.{state-refuses, searched-refuses, quick-call-never-nine}
-use Rattle.density.proofs.QuickIsPlain.{quick-is-plain, never-sixteen}
+use Rattle.density.proofs.NeverNine.{state-refuses, searched-refuses}
 use Rattle.density.proofs.Twelve.{gives-twelve-is-not-finite}
 use Rattle.density.proofs.Encloses.{Answers, plain-from-below-encloses, plain-from-above-encloses}
 use Rattle.density.proofs.ExactlyEight.{refuses-exactly}
@@ -55,7 +54,7 @@ use Rattle.bounds.proofs.Fractions.{holds, is-true}
 use Rattle.bounds.proofs.Entry.{temperature-finite, finite-in-range}
 use Rattle.bounds.proofs.Permits.{never-denied}
 use Rattle.bounds.proofs.R245ca.{r245ca-passes, r245ca-rises}
-use Rattle.bounds.proofs.AmongNumbers.{HasStep, below-found, above-found, above-refuses, above-refuses-exactly}
+use Rattle.bounds.proofs.AmongNumbers.{HasStep, below-found, above-found, above-refuses, above-refuses-exactly, quick-not-12}
 
 -- ---- a step's density is in the range
 -- 1,664 cells of 2²³ steps of 2⁻³⁰ are 13 mol/dm³
@@ -184,16 +183,16 @@ module _ (t P : Float) (c : ℕ) (side : Side) where
       searched-refuses (searchInputsOf t P c true) t side (plainStepOf side (pressuresOf t) P c) WorkNotFinite r
       (inputs-not-12 t P c true) (λ ok x. place-not-12 t P c ok side x)
 
-  -- over prepared lists the quick search meets none of 9, 12 and 16
-  module _ (g l : List Float) (ready : prepareOf t c g l ≡ Ready) where
-    pub quick-never-12 : quickOf t P c side (greatestAfter t c g l) (leastAfter t c g l) ≡ Found.Refused WorkNotFinite → ⊥
-    quick-never-12 r = plain-never-12 (sym (quick-is-plain t c g l ready P side) ∙ r)
-
-    pub quick-never-9 : quickOf t P c side (greatestAfter t c g l) (leastAfter t c g l) ≡ Found.Refused NotNeighbours → ⊥
-    quick-never-9 r = quick-call-never-nine t P c side (greatestAfter t c g l) (leastAfter t c g l) r
-
-    pub quick-never-16 : quickOf t P c side (greatestAfter t c g l) (leastAfter t c g l) ≡ Found.Refused NotEnclosed → ⊥
-    quick-never-16 r = never-sixteen t c g l ready P side r
+  -- nor does the quick one, whatever its lists hold
+  pub quick-never-12 : (g l : List Float) → quickOf t P c side g l ≡ Found.Refused WorkNotFinite → ⊥
+  unfolding quickOf
+  quick-never-12 g l r =
+      let room = roomOf c (length g) (length l) in
+      searched-refuses (searchInputsOf t P c room) t side (quickStepOf (entriesBy side g l) (pressuresOf t) P c) WorkNotFinite r
+      (inputs-not-12 t P c room)
+      (λ ok x.
+      let passed = search-passed t P c room ok in
+      quick-not-12 (entriesBy side g l) (pressuresOf t) P c (question t P c room ok (keptOf r245ca t) .some-cell) (numbers t (passed .temperature-passed) c (passed .top-passed)) x)
 
 -- ---- an answered density encloses P, with no proviso for the side from below
 granted-of : (i : Permit) (f : Found) (density : Float) (word : Word) → searched i f ≡ State density word → i ≡ Granted

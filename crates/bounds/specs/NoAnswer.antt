@@ -81,17 +81,19 @@ pub record EstimateCalls (F : Fluid) : Type 0 where
   pub saturated-liquid : (t : Float) → Never12 (saturatedLiquidOf F t)
   pub saturated-vapour : (t : Float) → Never12 (saturatedVapourOf F t)
 
--- a search never ends with one of 9, 12 and 16
-abbrev pub NoneOf9·12·16 : Found → Type 0
-NoneOf9·12·16 f = (f ≡ Found.Refused NotNeighbours → ⊥) × (f ≡ Found.Refused WorkNotFinite → ⊥) × (f ≡ Found.Refused NotEnclosed → ⊥)
+-- a search never ends with the refusal e
+abbrev pub Never : Refusal → Found → Type 0
+Never e f = f ≡ Found.Refused e → ⊥
 
 -- the searches of R-245ca, with no proviso
 pub record SearchCalls : Type 0 where
   -- a preparation never fails at a permitted T and c in lists long enough
   pub prepared : (t : Float) (c : ℕ) (g l : List Float) → prepareInputsOf t c (roomOf c (length g) (length l)) ≡ Granted → prepareOf t c g l ≡ Ready
-  -- whatever its inputs, a plain search and a quick one over prepared lists give none of 9, 12 and 16
-  pub plain : (t P : Float) (c : ℕ) (side : Side) → NoneOf9·12·16 (plainOf t P c side)
-  pub quick : (t P : Float) (c : ℕ) (side : Side) (g l : List Float) → prepareOf t c g l ≡ Ready → NoneOf9·12·16 (quickOf t P c side (greatestAfter t c g l) (leastAfter t c g l))
+  -- whatever the inputs: a plain search never ends with 9, 12 or 16
+  pub plain : (t P : Float) (c : ℕ) (side : Side) → Never NotNeighbours (plainOf t P c side) × Never WorkNotFinite (plainOf t P c side) × Never NotEnclosed (plainOf t P c side)
+  -- a quick one never with 9 or 12, and over prepared lists never with 16
+  pub quick : (t P : Float) (c : ℕ) (side : Side) (g l : List Float) → Never NotNeighbours (quickOf t P c side g l) × Never WorkNotFinite (quickOf t P c side g l)
+  pub quick-prepared : (t P : Float) (c : ℕ) (side : Side) (g l : List Float) → prepareOf t c g l ≡ Ready → Never NotEnclosed (quickOf t P c side (greatestAfter t c g l) (leastAfter t c g l))
   -- at a permitted T, P and c: 8 from below exactly if no coarse cell j has p(j) ≤ P < p(j+1), from above exactly if p(c) ≤ P
   pub from-below : (t P : Float) (c : ℕ) → searchInputsOf t P c true ≡ Granted → (plainOf t P c FromBelow ≡ Found.Refused NoCell) ↔ NoCellEncloses (atEnds (pressuresOf t)) P c
   pub from-above : (t P : Float) (c : ℕ) → searchInputsOf t P c true ≡ Granted → (plainOf t P c FromAbove ≡ Found.Refused NoCell) ↔ (le (pressuresOf t (endStep c)) P ≡ true)
