@@ -25,3 +25,4 @@ pub mod Potentials
 pub mod Stable
 pub mod NoAnswer
 pub mod Refused
+pub mod Codes

@@ -31,7 +31,7 @@ use Rattle.density.specs.declared.Found.the-variants.{State}
 use Rattle.density.specs.declared.Prepared.the-variants.{Ready}
 use Rattle.density.specs.Inputs.{roomOf, searchInputsOf, prepareInputsOf}
 use Rattle.density.specs.Calls.{pressuresOf, plainOf, prepareOf, greatestAfter, leastAfter, quickOf}
-use Rattle.density.specs.Codes.{foundCodeOf}
+use Rattle.density.specs.Codes.{foundCodeOf, preparedCodeOf}
 use Rattle.density.proofs.Encloses.{Answers}
 
 abbrev pub Never12 : Answer → Type 0
@@ -108,7 +108,16 @@ abbrev pub OneOf : ℕ → List ℕ → Type 0
 OneOf n [] = ⊥
 OneOf n (x ∷ xs) = (n ≡ x) ⊎ OneOf n xs
 
--- so the code of a pressure, or of a plain search at 1,664 cells, is one of few, whatever the numbers are
+-- so the code of a call is one of these, whatever its inputs are
 pub record Codes : Type 0 where
-  pub state : (t ρ : Float) → OneOf (answerCodeOf (pressureOf r245ca t ρ)) (0 ∷ 2 ∷ 3 ∷ 4 ∷ [])
-  pub search : (t P : Float) (side : Side) → OneOf (foundCodeOf (plainOf t P 1664 side)) (0 ∷ 2 ∷ 3 ∷ 5 ∷ [])
+  pub pressure : (t ρ : Float) → OneOf (answerCodeOf (pressureOf r245ca t ρ)) (0 ∷ 2 ∷ 3 ∷ 4 ∷ [])
+  pub energy : (t ρ : Float) → OneOf (answerCodeOf (energyOf r245ca t ρ)) (0 ∷ 2 ∷ 3 ∷ 4 ∷ [])
+  pub enthalpy : (t ρ : Float) → OneOf (answerCodeOf (enthalpyOf r245ca t ρ)) (0 ∷ 2 ∷ 3 ∷ 4 ∷ [])
+  pub isochoric : (t ρ : Float) → OneOf (answerCodeOf (isochoricOf r245ca t ρ)) (0 ∷ 2 ∷ 3 ∷ 4 ∷ [])
+  pub saturation-pressure : (t : Float) → OneOf (answerCodeOf (saturationPressureOf r245ca t)) (0 ∷ 2 ∷ 3 ∷ 13 ∷ [])
+  pub saturated-liquid : (t : Float) → OneOf (answerCodeOf (saturatedLiquidOf r245ca t)) (0 ∷ 2 ∷ 3 ∷ 13 ∷ [])
+  pub saturated-vapour : (t : Float) → OneOf (answerCodeOf (saturatedVapourOf r245ca t)) (0 ∷ 2 ∷ 3 ∷ 13 ∷ [])
+  pub prepare : (t : Float) (c : ℕ) (g l : List Float) → OneOf (preparedCodeOf (prepareOf t c g l)) (0 ∷ 2 ∷ 3 ∷ 6 ∷ 7 ∷ [])
+  pub plain : (t P : Float) (c : ℕ) (side : Side) → OneOf (foundCodeOf (plainOf t P c side)) (0 ∷ 2 ∷ 3 ∷ 5 ∷ 6 ∷ 8 ∷ [])
+  -- with 1,664 cells
+  pub plain-to-the-top : (t P : Float) (side : Side) → OneOf (foundCodeOf (plainOf t P 1664 side)) (0 ∷ 2 ∷ 3 ∷ 5 ∷ [])
