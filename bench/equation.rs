@@ -1,5 +1,8 @@
 //! The equation in Rust in the package's form: what the temperature alone decides is kept, the powers and the
 //! exponentials are worked seven at a time, rows 6 and 7 are damped as row 9 is, and one loop sums.
+#[path = "records.rs"]
+mod records;
+
 use crate::r245ca::{Power, Row, A1, A2, C0, CRITICAL_RHO, CRITICAL_T, M, PAIRS, R, ROWS};
 use crate::{finite_or_nan, seven_exps, rust_exp as exp, rust_ln as ln, rust_root as root};
 

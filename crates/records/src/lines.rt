@@ -20,25 +20,7 @@ ghost use Rattle.records.specs.Lines.{headerText, lettersOf, markText, d
 pub fn header() -> [u8; 17]
     ensures { λ r. ⌜ r ≡ headerText ⌝ }
 {
-    [
-        110,
-        32,
-        109,
-        97,
-        114,
-        107,
-        32,
-        99,
-        111,
-        100,
-        101,
-        32,
-        98,
-        105,
-        116,
-        115,
-        10,
-    ]
+    *b"n mark code bits\n"
 }
 
 fn put_letters(mark: Mark, out: &mut [u8], at: usize) -> usize

@@ -39,7 +39,11 @@ returns c =
     (ap answerCodeOf e, put .put-word .ensures ∙ simp (put .before .bits .ensures) (ap (λ (a : Answer). outputOf a out) e))
 
 returns-2 : tie.Need-returns-2
-returns-2 c = search needs
+returns-2 c =
+    let known = c .before .before in
+    let out = known .before .before .before .args .out .now in
+    let e = sym (known .a2 .given .1) in
+    (c .code .ensures ∙ ap answerCodeOf e, ap (λ (a : Answer). outputOf a out) e)
 
 pub handed-out-spec : {M : Type 1} → statement M
 handed-out-spec =

@@ -1,5 +1,5 @@
 -- `mark_of` meets its contract: its tests are those of the definition, and a missing letter is none of them. Assumes nothing.
-use mathlib.Core.Path.{_≡_, refl}
+use mathlib.Core.Path.{_≡_, refl, _∙_}
 use mathlib.Core.Bool.{Bool, true, false, cond}
 use mathlib.Core.List.{List, [], _∷_}
 use Prim.Native.Nat.{ℕ, _<_}
@@ -7,8 +7,10 @@ use native.Mathlib.Omega.{arith}
 use lib.Dec.{eqb}
 use lib.ListN.{length}
 use borrow.Author.Tests.{eq-eqb, ne-eqb}
+use Rattle.words.specs.Word.{byteAt}
+use Rattle.records.specs.declared.Mark.{Mark}
 use Rattle.records.specs.declared.Mark.the-variants.{Unknown}
-use Rattle.records.specs.Record.{markOf}
+use Rattle.records.specs.Record.{letterOf, markOf}
 use borrow.Author.Needs.{needs}
 use Rattle.records.proofs.reader.mark_of.Statement.{statement}
 use Rattle.records.proofs.reader.mark_of.Tie as tie
@@ -26,8 +28,16 @@ short [] h = refl
 short (a ∷ []) h = no-second (eqb a 84)
 short (a ∷ b ∷ s) h = absurd (omega arith)
 
+module _ (s : List ℕ) where
+  other-first : (byteAt s 0 ≡ 84 → ⊥) → Unknown ≡ markOf s
+  unfolding markOf
+  other-first h = simp (ne-eqb (byteAt s 0) 84 h)
+
+  by-second : byteAt s 0 ≡ 84 → {m : Mark} → m ≡ letterOf (byteAt s 1) → m ≡ markOf s
+  unfolding markOf
+  by-second h e = e ∙ simp (eq-eqb (byteAt s 0) 84 h)
+
 returns : tie.Need-returns
-unfolding markOf
 returns c = short (c .before .args .s .now) (c .if1 .taken)
 
 shared-slice-read-first : tie.Need-shared-slice-read-first
@@ -37,40 +47,35 @@ shared-slice-read-second : tie.Need-shared-slice-read-second
 shared-slice-read-second c = search needs
 
 returns-2 : tie.Need-returns-2
-unfolding markOf
-returns-2 c = simp (ne-eqb _ _ (c .if2 .taken))
+returns-2 c = other-first (c .before .before .before .before .args .s .now) (c .if2 .taken)
 
 returns-3 : tie.Need-returns-3
-unfolding markOf
-returns-3 c = simp (eq-eqb _ _ (c .before .if2 .left), c .match .keys1)
+returns-3 c = by-second (c .before .before .before .before .before .args .s .now) (c .before .if2 .left) (simp (c .match .keys1))
 
 returns-4 : tie.Need-returns-4
-unfolding markOf
-returns-4 c = simp (eq-eqb _ _ (c .before .if2 .left), c .match .keys2)
+returns-4 c = by-second (c .before .before .before .before .before .args .s .now) (c .before .if2 .left) (simp (c .match .keys2))
 
 returns-5 : tie.Need-returns-5
-unfolding markOf
-returns-5 c = simp (eq-eqb _ _ (c .before .if2 .left), c .match .keys3)
+returns-5 c = by-second (c .before .before .before .before .before .args .s .now) (c .before .if2 .left) (simp (c .match .keys3))
 
 returns-6 : tie.Need-returns-6
-unfolding markOf
-returns-6 c = simp (eq-eqb _ _ (c .before .if2 .left), c .match .keys4)
+returns-6 c = by-second (c .before .before .before .before .before .args .s .now) (c .before .if2 .left) (simp (c .match .keys4))
 
 returns-7 : tie.Need-returns-7
-unfolding markOf
-returns-7 c = simp (eq-eqb _ _ (c .before .if2 .left), c .match .keys5)
+returns-7 c = by-second (c .before .before .before .before .before .args .s .now) (c .before .if2 .left) (simp (c .match .keys5))
 
 returns-8 : tie.Need-returns-8
-unfolding markOf
 returns-8 c =
     let others = c .match .rest in
+    by-second (c .before .before .before .before .before .args .s .now) (c .before .if2 .left)
+    (
     simp (
-      eq-eqb _ _ (c .before .if2 .left),
       ne-eqb _ _ (others .1),
       ne-eqb _ _ (others .0 .1),
       ne-eqb _ _ (others .0 .0 .1),
       ne-eqb _ _ (others .0 .0 .0 .1),
       ne-eqb _ _ (others .0 .0 .0 .0 .1),
+    )
     )
 
 pub mark-of-spec : {M : Type 1} → statement M

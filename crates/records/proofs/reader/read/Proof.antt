@@ -1,7 +1,13 @@
 -- `read` meets its contract: the length first, then the mark. Assumes nothing.
-use mathlib.Core.Path.{_∙_}
+use mathlib.Core.Path.{_≡_, _∙_, ap}
+use mathlib.Core.List.{List}
+use Prim.Native.Nat.{ℕ}
+use lib.ListN.{length}
 use borrow.Author.Tests.{eq-eqb, ne-eqb}
-use Rattle.records.specs.Record.{readingOf}
+use Rattle.refusals.specs.declared.Refusal.the-variants.{CutShort}
+use Rattle.records.specs.declared.Mark.{Mark}
+use Rattle.records.specs.declared.Reading.the-variants.{Refused}
+use Rattle.records.specs.Record.{markOf, askedBy, readingOf}
 use borrow.Author.Needs.{needs}
 use Rattle.records.proofs.reader.read.Statement.{statement}
 use Rattle.records.proofs.reader.read.Tie as tie
@@ -10,9 +16,17 @@ use Rattle.records.proofs.reader.read.Lts as lts
 use Rattle.records.proofs.reader.asked_by.Reads as asked-by-reads
 use Rattle.records.proofs.reader.mark_of.Reads as mark-of-reads
 
+module _ (s : List ℕ) where
+  other-length : (length s ≡ 18 → ⊥) → Refused CutShort ≡ readingOf s
+  unfolding readingOf
+  other-length h = simp (ne-eqb (length s) 18 h)
+
+  whole : length s ≡ 18 → askedBy (markOf s) s ≡ readingOf s
+  unfolding readingOf
+  whole h = simp (eq-eqb (length s) 18 h)
+
 returns : tie.Need-returns
-unfolding readingOf
-returns c = simp (ne-eqb _ _ (c .if1 .taken))
+returns c = other-length (c .before .before .args .s .now) (c .if1 .taken)
 
 mark-of-requires : tie.Need-mark-of-requires
 mark-of-requires c κs = search needs
@@ -21,8 +35,9 @@ asked-by-requires : tie.Need-asked-by-requires
 asked-by-requires c κs = search needs
 
 returns-2 : tie.Need-returns-2
-unfolding readingOf
-returns-2 c = c .asked-by .ensures ∙ simp (c .before .mark-of .ensures, eq-eqb _ _ (c .before .before .if1 .left))
+returns-2 c =
+    let s = c .before .before .before .before .args .s .now in
+    c .asked-by .ensures ∙ ap (λ (m : Mark). askedBy m s) (c .before .mark-of .ensures) ∙ whole s (c .before .before .if1 .left)
 
 pub read-spec : {M : Type 1} → statement M
 read-spec = tie.close (tie.spec returns mark-of-requires asked-by-requires returns-2)
