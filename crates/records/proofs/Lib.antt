@@ -2,3 +2,5 @@ pub mod Digits
 pub mod Lengths
 pub mod Placing
 pub mod Printed
+pub mod Streams
+pub mod Theorems

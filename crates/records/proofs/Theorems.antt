@@ -1,0 +1,127 @@
+-- What follows of the C call and of the lines from their definitions, for readers who want 01's sentences one by one.
+use mathlib.Core.Path.{_≡_, refl, sym, _∙_, ap}
+use mathlib.Core.Bool.{Bool, true, false}
+use mathlib.Core.List.{List}
+use Prim.Native.Nat.{ℕ, _≤_, _<_}
+use borrow.Author.Tests.{le-leb, lt-leb, leb-true, leb-false}
+use lib.Dec.{leb}
+use lib.Ieee.{Float, binary64, toBits}
+use lib.ListN.{length, drop}
+use lib.Seq.{drop-at}
+use Rattle.refusals.specs.declared.Refusal.the-variants.{TooShort}
+use Rattle.refusals.specs.declared.Permit.{Permit}
+use Rattle.refusals.specs.declared.Permit.the-variants.{Granted, Denied}
+use Rattle.refusals.specs.declared.Answer.{Answer}
+use Rattle.refusals.specs.declared.Answer.the-variants.{Number, Refused}
+use Rattle.refusals.specs.Code.{answerCodeOf}
+use Rattle.refusals.specs.Order.{permitted}
+use Rattle.words.specs.Word.{bytesOf, withWord}
+use Rattle.words.proofs.Written.{bytes-length, word-written, word-not-written}
+use Rattle.arithmetic.specs.Calls.{outcomeOf}
+use Rattle.fluids.specs.R245ca.{r245ca}
+use Rattle.equation.specs.Calls.{statePermit, pressureOf, workedDensity}
+use Rattle.equation.specs.Values.{pressureValue}
+use Rattle.density.specs.declared.Side.{Side}
+use Rattle.density.specs.declared.Found.{Found}
+use Rattle.density.specs.Inputs.{temperaturePermittedOf, pressurePermittedOf, topPermittedOf, firstRefusalOf, searchInputsOf}
+use Rattle.density.specs.State.{foundStateOf}
+use Rattle.density.specs.Calls.{pressuresOf, plainStepOf, searched, plainOf}
+use Rattle.records.specs.declared.Reading.{Reading}
+use Rattle.records.specs.declared.Reading.the-variants.{State, Search}
+use Rattle.records.specs.Record.{readingOf, foundAnswer, densityOf, workOf, answerOf}
+use Rattle.records.specs.Call.{numbersPermit, inputsOf, withRoom, permitOf, callOf, outputOf, callCode, callOutput}
+
+-- ---- the tests before the work are the work's own
+
+twice : (p : Permit) (a : Answer) → permitted p (permitted p a) ≡ permitted p a
+twice Granted a = refl
+twice (Denied r) a = refl
+
+found-permitted : (p : Permit) (found : Found) → foundAnswer (searched p found) ≡ permitted p (foundAnswer found)
+found-permitted Granted found = refl
+found-permitted (Denied r) found = refl
+
+state-inputs : (T ρ : Float) → inputsOf (State T ρ) ≡ statePermit r245ca T ρ
+unfolding numbersPermit statePermit
+state-inputs T ρ = refl
+
+top-permitted : topPermittedOf 1664 ≡ true
+unfolding topPermittedOf r245ca
+top-permitted = refl
+
+search-inputs : (T P : Float) (side : Side) → searchInputsOf T P 1664 true ≡ inputsOf (Search T P side)
+unfolding searchInputsOf firstRefusalOf temperaturePermittedOf pressurePermittedOf numbersPermit
+search-inputs T P side = simp top-permitted
+
+state-work : (T ρ : Float) → permitted (inputsOf (State T ρ)) (pressureOf r245ca T ρ) ≡ pressureOf r245ca T ρ
+unfolding pressureOf
+state-work T ρ =
+    ap (λ (p : Permit). permitted p (pressureOf r245ca T ρ)) (state-inputs T ρ)
+    ∙ twice (statePermit r245ca T ρ) (outcomeOf (pressureValue r245ca T (workedDensity ρ)))
+
+density-is : (T P : Float) (side : Side) →
+    densityOf T P side
+    ≡ permitted (inputsOf (Search T P side)) (foundAnswer (foundStateOf T side (plainStepOf side (pressuresOf T) P 1664)))
+unfolding densityOf plainOf
+density-is T P side =
+    let found = foundStateOf T side (plainStepOf side (pressuresOf T) P 1664) in
+    found-permitted (searchInputsOf T P 1664 true) found
+    ∙ ap (λ (p : Permit). permitted p (foundAnswer found)) (search-inputs T P side)
+
+search-work : (T P : Float) (side : Side) → permitted (inputsOf (Search T P side)) (densityOf T P side) ≡ densityOf T P side
+search-work T P side =
+    let p = inputsOf (Search T P side) in
+    let work = foundAnswer (foundStateOf T side (plainStepOf side (pressuresOf T) P 1664)) in
+    ap (permitted p) (density-is T P side) ∙ twice p work ∙ sym (density-is T P side)
+
+work-permitted : (asked : Reading) → permitted (inputsOf asked) (workOf asked) ≡ workOf asked
+work-permitted (State T ρ) = state-work T ρ
+work-permitted (Search T P side) = search-work T P side
+work-permitted (Reading.Refused r) = refl
+
+-- ---- the room
+
+room-last : (p : Permit) (room : ℕ) (a : Answer) → 8 ≤ room → permitted (withRoom p room) a ≡ permitted p a
+room-last Granted room a h = simp (le-leb 8 room h)
+room-last (Denied r) room a h = refl
+
+-- with room for the number, the call answers what the program prints
+pub with-room : (s : List ℕ) (room : ℕ) → 8 ≤ room → callOf s room ≡ answerOf s
+unfolding callOf permitOf answerOf
+with-room s room h = room-last (inputsOf (readingOf s)) room (workOf (readingOf s)) h ∙ work-permitted (readingOf s)
+
+no-room : (p : Permit) (room : ℕ) (a : Answer) → room < 8 → permitted (withRoom p room) a ≡ permitted p (Refused TooShort)
+no-room Granted room a h = simp (lt-leb 8 room h)
+no-room (Denied r) room a h = refl
+
+-- without, it answers 7 unless 15, 14, 1, 2, 3, 4 or 5 comes before
+pub without-room : (s : List ℕ) (room : ℕ) → room < 8 → callOf s room ≡ permitted (inputsOf (readingOf s)) (Refused TooShort)
+unfolding callOf permitOf
+without-room s room h = no-room (inputsOf (readingOf s)) room (workOf (readingOf s)) h
+
+-- ---- the output
+
+output-refused : (a : Answer) (out : List ℕ) → (answerCodeOf a ≡ 0 → ⊥) → outputOf a out ≡ out
+output-refused (Number x) out h = absurd (h refl)
+output-refused (Refused r) out h = refl
+
+-- a refused call leaves the output as it was
+pub refused-unchanged : (s out : List ℕ) → (callCode s out ≡ 0 → ⊥) → callOutput s out ≡ out
+unfolding callCode callOutput
+refused-unchanged s out h = output-refused (callOf s (length out)) out h
+
+word-tail : (w : ℕ) (out : List ℕ) → drop 8 (withWord w out) ≡ drop 8 out
+word-tail w out = go (leb 8 (length out)) refl
+  where
+    go : (b : Bool) → leb 8 (length out) ≡ b → drop 8 (withWord w out) ≡ drop 8 out
+    go true e = ap (drop 8) (word-written w out (leb-true 8 (length out) e)) ∙ drop-at (bytesOf w) (drop 8 out) 8 (bytes-length w)
+    go false e = ap (drop 8) (word-not-written w out (leb-false 8 (length out) e))
+
+output-tail : (a : Answer) (out : List ℕ) → drop 8 (outputOf a out) ≡ drop 8 out
+output-tail (Number x) out = word-tail (toBits binary64 x) out
+output-tail (Refused r) out = refl
+
+-- output bytes after the eighth never change
+pub after-the-eighth : (s out : List ℕ) → drop 8 (callOutput s out) ≡ drop 8 out
+unfolding callOutput
+after-the-eighth s out = output-tail (callOf s (length out)) out
