@@ -1,6 +1,7 @@
 // Reads the file states.rec and prints a header and a line for each of its records, a block at a time.
 //
-// A missing or empty file gives the header alone. What cannot be read, as a directory, does too, and standard error says why.
+// A missing or empty file gives the header alone. What cannot be read, as a directory, does too; standard error then says why, as
+// it does where the lines cannot be written.
 use libc::STDOUT_FILENO;
 ghost use mathlib.Core.Path.{_≡_};
 ghost use Prim.Native.Nat.{_≤_};
@@ -19,13 +20,22 @@ fn line_block() -> [u8; 233024]
     [0; 233024]
 }
 
+// Says on standard error why a text could not be written.
+fn print(text: &[u8]) -> bool {
+    if io::write_all(STDOUT_FILENO, text) {
+        return true;
+    }
+    os::fail(b"standard output");
+    false
+}
+
 // Prints the lines of one block, its first record numbered first; false where the file ended, or the lines could not be written.
 fn block(fd: i32, first: u64) -> bool {
     let mut input = record_block();
     let mut out = line_block();
     let n = io::read_full(fd, &mut input);
     let end = records::put_lines(&input[..n], first, &mut out);
-    let written = io::write_all(STDOUT_FILENO, &out[..end]);
+    let written = print(&out[..end]);
     if n < 65520 {
         return false;
     }
@@ -56,7 +66,9 @@ fn tell_failure(fd: i32) {
 
 fn main() {
     let header = records::header();
-    io::write_all(STDOUT_FILENO, &header);
+    if !print(&header) {
+        return;
+    }
     let fd = os::open_read(b"states.rec");
     if fd < 0 {
         if os::errno() != libc::ENOENT {

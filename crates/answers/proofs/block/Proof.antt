@@ -11,7 +11,7 @@ use Rattle.answers.proofs.block.Lts as lts
 use Rattle.answers.proofs.line_block.Reads as line-block-reads
 use Rattle.answers.proofs.record_block.Reads as record-block-reads
 use Rattle.io.proofs.read_full.Reads as read-full-reads
-use Rattle.io.proofs.write_all.Reads as write-all-reads
+use Rattle.answers.proofs.print.Reads as print-reads
 use Rattle.records.proofs.put_lines.Reads as put-lines-reads
 
 record-block-requires : tie.Need-record-block-requires
@@ -43,13 +43,13 @@ array-share-prefix-out c =
     let printed = c .before .put-lines .ensures in
     omega (arith, lines-inside _ _ _ _ _ (printed .0) (printed .1))
 
-slice-aggregate-write-all : tie.Need-slice-aggregate-write-all
-slice-aggregate-write-all c =
+slice-aggregate-print : tie.Need-slice-aggregate-print
+slice-aggregate-print c =
     let printed = c .before .before .put-lines .ensures in
     sym (length-take-le _ _ (lines-inside _ _ _ _ _ (printed .0) (printed .1)))
 
-write-all-requires : tie.Need-write-all-requires
-write-all-requires c κs = search needs
+print-requires : tie.Need-print-requires
+print-requires c κs = search needs
 
 returns : tie.Need-returns
 returns c = search needs
@@ -70,7 +70,7 @@ block-spec =
     slice-aggregate-put-lines-2
     put-lines-requires
     array-share-prefix-out
-    slice-aggregate-write-all
-    write-all-requires
+    slice-aggregate-print
+    print-requires
     returns
     returns-2)

@@ -58,7 +58,8 @@ returns c =
     let second = third .before .before in
     let first = second .before .before in
     let entry = first .before .entry .ensures in
-    all-passed _ _ _ _ _ (sym (first .both-finite .ensures) ∙ second .before .if1 .taken)
+    let args = first .before .before .args in
+    all-passed (args .t) (args .x) _ _ _ (sym (first .both-finite .ensures) ∙ second .before .if1 .taken)
     (in-temperature r245ca _ _ _ entry (second .between .ensures) ∙ third .before .if2 .taken)
     (sym (third .between2 .ensures) ∙ c .if3 .taken)
 
@@ -68,7 +69,8 @@ returns-2 c =
     let second = third .before .before in
     let first = second .before .before in
     let entry = first .before .entry .ensures in
-    other-second _ _ _ _ _ (sym (first .both-finite .ensures) ∙ second .before .if1 .taken)
+    let args = first .before .before .args in
+    other-second (args .t) (args .x) _ _ _ (sym (first .both-finite .ensures) ∙ second .before .if1 .taken)
     (in-temperature r245ca _ _ _ entry (second .between .ensures) ∙ third .before .if2 .taken)
     (sym (third .between2 .ensures) ∙ c .if3 .left)
 
@@ -77,11 +79,14 @@ returns-3 c =
     let second = c .before in
     let first = second .before .before in
     let entry = first .before .entry .ensures in
-    other-temperature _ _ _ _ _ (sym (first .both-finite .ensures) ∙ second .before .if1 .taken)
+    let args = first .before .before .args in
+    other-temperature (args .t) (args .x) _ _ _ (sym (first .both-finite .ensures) ∙ second .before .if1 .taken)
     (in-temperature r245ca _ _ _ entry (second .between .ensures) ∙ c .if2 .left)
 
 returns-4 : tie.Need-returns-4
-returns-4 c = not-finite _ _ _ _ _ (sym (c .before .both-finite .ensures) ∙ c .if1 .left)
+returns-4 c =
+    let args = c .before .before .before .args in
+    not-finite (args .t) (args .x) _ _ _ (sym (c .before .both-finite .ensures) ∙ c .if1 .left)
 
 pub numbers-permit-spec : {M : Type 1} → statement M
 numbers-permit-spec =
