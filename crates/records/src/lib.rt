@@ -22,10 +22,8 @@ use refusals::code;
 use words::bits;
 use words::put_word;
 ghost use mathlib.Core.Path.{_≡_};
-ghost use Prim.Native.Nat.{_≤_};
-ghost use lib.ListN.{length};
 ghost use Rattle.refusals.specs.Code.{answerCodeOf};
-ghost use Rattle.records.specs.Call.{outputOf, callOf, callCode, callOutput};
+ghost use Rattle.records.specs.Call.{outputOf, callCode, callOutput};
 
 // The two letters at a record's front.
 pub enum Mark {

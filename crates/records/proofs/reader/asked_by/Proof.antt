@@ -4,7 +4,10 @@ use mathlib.Core.List.{List}
 use Prim.Native.Nat.{ℕ}
 use Rattle.records.specs.declared.Mark.{Mark}
 use Rattle.records.specs.declared.Reading.{Reading}
-use Rattle.records.specs.Record.{askedBy}
+use lib.Ieee.{Float}
+use Rattle.density.specs.declared.Side.the-variants.{FromBelow, FromAbove}
+use Rattle.records.specs.declared.Reading.the-variants.{State, Search}
+use Rattle.records.specs.Record.{firstNumberOf, secondNumberOf, askedBy}
 use borrow.Author.Needs.{needs}
 use Rattle.records.proofs.reader.asked_by.Statement.{statement}
 use Rattle.records.proofs.reader.asked_by.Tie as tie
@@ -12,6 +15,11 @@ use Rattle.records.proofs.reader.asked_by.Reads as reads
 use Rattle.records.proofs.reader.asked_by.Lts as lts
 use Rattle.records.proofs.reader.first_number.Reads as first-number-reads
 use Rattle.records.proofs.reader.second_number.Reads as second-number-reads
+
+-- a reading of the record's two numbers
+numbers : (s : List ℕ) (ask : Float → Float → Reading) {x y : Float} → x ≡ firstNumberOf s → y ≡ secondNumberOf s →
+    ask x y ≡ ask (firstNumberOf s) (secondNumberOf s)
+numbers s ask e f = simp (e, f)
 
 asked : (s : List ℕ) {m known : Mark} {r : Reading} → m ≡ known → r ≡ askedBy known s → r ≡ askedBy m s
 asked s e f = f ∙ sym (ap (λ (m : Mark). askedBy m s) e)
@@ -59,16 +67,16 @@ enum-told-6 : tie.Need-enum-told-6
 enum-told-6 c = search needs
 
 returns : tie.Need-returns
-returns c = asked _ (c .before .before .enum-told .given .1) (simp (c .before .first-number .ensures, c .second-number .ensures))
+returns c = asked _ (c .before .before .enum-told .given .1) (numbers (c .before .before .before .before .before .args .s .now) (λ (T x : Float). State T x) (c .before .first-number .ensures) (c .second-number .ensures))
 
 returns-2 : tie.Need-returns-2
-returns-2 c = asked _ (c .before .before .enum-told2 .given .1) (simp (c .before .first-number2 .ensures, c .second-number2 .ensures))
+returns-2 c = asked _ (c .before .before .enum-told2 .given .1) (numbers (c .before .before .before .before .before .args .s .now) (λ (T x : Float). Search T x FromBelow) (c .before .first-number2 .ensures) (c .second-number2 .ensures))
 
 returns-3 : tie.Need-returns-3
-returns-3 c = asked _ (c .before .before .enum-told3 .given .1) (simp (c .before .first-number3 .ensures, c .second-number3 .ensures))
+returns-3 c = asked _ (c .before .before .enum-told3 .given .1) (numbers (c .before .before .before .before .before .args .s .now) (λ (T x : Float). Search T x FromAbove) (c .before .first-number3 .ensures) (c .second-number3 .ensures))
 
 returns-4 : tie.Need-returns-4
-returns-4 c = asked _ (c .before .before .enum-told4 .given .1) (simp (c .before .first-number4 .ensures, c .second-number4 .ensures))
+returns-4 c = asked _ (c .before .before .enum-told4 .given .1) (numbers (c .before .before .before .before .before .args .s .now) (λ (T x : Float). Search T x FromBelow) (c .before .first-number4 .ensures) (c .second-number4 .ensures))
 
 returns-5 : tie.Need-returns-5
 returns-5 c = asked _ (c .enum-told5 .given .1) refl

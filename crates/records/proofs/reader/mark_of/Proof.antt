@@ -1,5 +1,5 @@
 -- `mark_of` meets its contract: its tests are those of the definition, and a missing letter is none of them. Assumes nothing.
-use mathlib.Core.Path.{_≡_, refl, _∙_}
+use mathlib.Core.Path.{_≡_, refl, sym, _∙_, ap}
 use mathlib.Core.Bool.{Bool, true, false, cond}
 use mathlib.Core.List.{List, [], _∷_}
 use Prim.Native.Nat.{ℕ, _<_}
@@ -50,19 +50,19 @@ returns-2 : tie.Need-returns-2
 returns-2 c = other-first (c .before .before .before .before .args .s .now) (c .if2 .taken)
 
 returns-3 : tie.Need-returns-3
-returns-3 c = by-second (c .before .before .before .before .before .args .s .now) (c .before .if2 .left) (simp (c .match .keys1))
+returns-3 c = by-second (c .before .before .before .before .before .args .s .now) (c .before .if2 .left) (sym (ap letterOf (c .match .keys1)))
 
 returns-4 : tie.Need-returns-4
-returns-4 c = by-second (c .before .before .before .before .before .args .s .now) (c .before .if2 .left) (simp (c .match .keys2))
+returns-4 c = by-second (c .before .before .before .before .before .args .s .now) (c .before .if2 .left) (sym (ap letterOf (c .match .keys2)))
 
 returns-5 : tie.Need-returns-5
-returns-5 c = by-second (c .before .before .before .before .before .args .s .now) (c .before .if2 .left) (simp (c .match .keys3))
+returns-5 c = by-second (c .before .before .before .before .before .args .s .now) (c .before .if2 .left) (sym (ap letterOf (c .match .keys3)))
 
 returns-6 : tie.Need-returns-6
-returns-6 c = by-second (c .before .before .before .before .before .args .s .now) (c .before .if2 .left) (simp (c .match .keys4))
+returns-6 c = by-second (c .before .before .before .before .before .args .s .now) (c .before .if2 .left) (sym (ap letterOf (c .match .keys4)))
 
 returns-7 : tie.Need-returns-7
-returns-7 c = by-second (c .before .before .before .before .before .args .s .now) (c .before .if2 .left) (simp (c .match .keys5))
+returns-7 c = by-second (c .before .before .before .before .before .args .s .now) (c .before .if2 .left) (sym (ap letterOf (c .match .keys5)))
 
 returns-8 : tie.Need-returns-8
 returns-8 c =

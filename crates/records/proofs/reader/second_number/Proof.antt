@@ -1,5 +1,7 @@
 -- `second_number` meets its contract: the word of the tail that the number begins. Assumes nothing.
-use mathlib.Core.Path.{_∙_}
+use mathlib.Core.Path.{_∙_, ap}
+use lib.Ieee.{binary64, ofBits}
+use Rattle.words.specs.Word.{wordOf}
 use Rattle.words.proofs.Tail.{tail-read}
 use Rattle.records.specs.Record.{secondNumberOf}
 use borrow.Author.Needs.{needs}
@@ -27,7 +29,9 @@ number-requires c κs = search needs
 
 returns : tie.Need-returns
 unfolding secondNumberOf
-returns c = c .number .ensures ∙ simp (c .before .word .ensures, tail-read)
+returns c =
+    let s = c .before .before .before .before .args .s .now in
+    c .number .ensures ∙ ap (ofBits binary64) (c .before .word .ensures ∙ ap wordOf (tail-read 10 s))
 
 pub second-number-spec : {M : Type 1} → statement M
 second-number-spec =
