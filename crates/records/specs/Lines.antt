@@ -1,7 +1,7 @@
 -- 01, "The program `answers`": a header, then a line for each record: its number from 1, its mark, the code, and the bits, one
 -- space between fields.
 use mathlib.Core.Bool.{Bool, cond, _&&_}
-use mathlib.Core.List.{List, [], _∷_, _++_}
+use mathlib.Core.List.{List, [], _++_}
 use Prim.Native.Nat.{ℕ, zero, suc, _+_, _*_, _/_, _^_}
 use lib.Dec.{eqb, ltb}
 use lib.Ieee.{binary64, toBits}
@@ -11,30 +11,30 @@ use Rattle.refusals.specs.declared.Answer.the-variants.{Number, Refused}
 use Rattle.refusals.specs.Code.{answerCodeOf}
 use Rattle.records.specs.declared.Mark.{Mark}
 use Rattle.records.specs.declared.Mark.the-variants.{TD, TB, TA, TP, TN, Unknown}
+use Rattle.records.specs.Letters.{bytes}
 use Rattle.records.specs.Record.{markOf, answerOf}
 use Rattle.records.specs.Text.{digitsOf, decimalOf}
 
--- "n mark code bits", and the line's end
 unfoldable pub headerText : List ℕ
-headerText = 110 ∷ 32 ∷ 109 ∷ 97 ∷ 114 ∷ 107 ∷ 32 ∷ 99 ∷ 111 ∷ 100 ∷ 101 ∷ 32 ∷ 98 ∷ 105 ∷ 116 ∷ 115 ∷ 10 ∷ []
+headerText = bytes "n mark code bits\n"
 
 -- a mark's two letters, and ?? if unknown
 abbrev pub lettersOf : Mark → List ℕ
-lettersOf TD = 84 ∷ 68 ∷ []
-lettersOf TB = 84 ∷ 66 ∷ []
-lettersOf TA = 84 ∷ 65 ∷ []
-lettersOf TP = 84 ∷ 80 ∷ []
-lettersOf TN = 84 ∷ 78 ∷ []
-lettersOf Unknown = 63 ∷ 63 ∷ []
+lettersOf TD = bytes "TD"
+lettersOf TB = bytes "TB"
+lettersOf TA = bytes "TA"
+lettersOf TP = bytes "TP"
+lettersOf TN = bytes "TN"
+lettersOf Unknown = bytes "??"
 
 -- -- if cut
 unfoldable pub markText : List ℕ → List ℕ
-markText s = cond (eqb (length s) 18) (lettersOf (markOf s)) (45 ∷ 45 ∷ [])
+markText s = cond (eqb (length s) 18) (lettersOf (markOf s)) (bytes "--")
 
 -- k dashes
 unfoldable pub dashes : ℕ → List ℕ
 dashes zero = []
-dashes (suc k) = dashes k ++ (45 ∷ [])
+dashes (suc k) = dashes k ++ bytes "-"
 
 -- 16 lower-case hex digits of the bits, highest first, or 16 dashes
 abbrev pub bitsText : Answer → List ℕ
@@ -43,7 +43,7 @@ bitsText (Refused r) = dashes 16
 
 -- a field and the space after it
 abbrev pub spaced : List ℕ → List ℕ
-spaced field = field ++ (32 ∷ [])
+spaced field = field ++ bytes " "
 
 -- the code and the bits
 unfoldable pub answerText : Answer → List ℕ
@@ -51,7 +51,7 @@ answerText a = spaced (decimalOf (answerCodeOf a)) ++ bitsText a
 
 -- the line of the record s with the number n
 unfoldable pub lineOf : ℕ → List ℕ → List ℕ
-lineOf n s = ((spaced (decimalOf n) ++ spaced (markText s)) ++ answerText (answerOf s)) ++ (10 ∷ [])
+lineOf n s = ((spaced (decimalOf n) ++ spaced (markText s)) ++ answerText (answerOf s)) ++ bytes "\n"
 
 -- ---- files
 

@@ -2,6 +2,7 @@
 use mathlib.Core.Bool.{cond}
 use mathlib.Core.List.{List}
 use Prim.Native.Nat.{ℕ}
+use Prim.Native.Char.{code}
 use lib.Dec.{eqb}
 use lib.Ieee.{Float, binary64, ofBits}
 use lib.ListN.{length, drop}
@@ -22,11 +23,14 @@ use Rattle.records.specs.declared.Reading.the-variants.{State, Search}
 
 -- the second letter: D, B, A, P, N
 abbrev pub letterOf : ℕ → Mark
-letterOf b = cond (eqb b 68) TD (cond (eqb b 66) TB (cond (eqb b 65) TA (cond (eqb b 80) TP (cond (eqb b 78) TN Unknown))))
+letterOf b =
+    cond (eqb b (code "D")) TD
+    (cond (eqb b (code "B")) TB
+    (cond (eqb b (code "A")) TA (cond (eqb b (code "P")) TP (cond (eqb b (code "N")) TN Unknown))))
 
 -- the first letter is T
 unfoldable pub markOf : List ℕ → Mark
-markOf s = cond (eqb (byteAt s 0) 84) (letterOf (byteAt s 1)) Unknown
+markOf s = cond (eqb (byteAt s 0) (code "T")) (letterOf (byteAt s 1)) Unknown
 
 -- the numbers after the mark; every NaN pattern is a NaN
 unfoldable pub firstNumberOf : List ℕ → Float

@@ -18,15 +18,15 @@ pub fn mark_of(s: &[u8]) -> Mark
     }
     let first = s[0];
     let second = s[1];
-    if first != 84 {
+    if first != b'T' {
         return Mark::Unknown;
     }
     match second {
-        68 => Mark::TD,
-        66 => Mark::TB,
-        65 => Mark::TA,
-        80 => Mark::TP,
-        78 => Mark::TN,
+        b'D' => Mark::TD,
+        b'B' => Mark::TB,
+        b'A' => Mark::TA,
+        b'P' => Mark::TP,
+        b'N' => Mark::TN,
         _ => Mark::Unknown,
     }
 }
