@@ -2,5 +2,6 @@ pub mod Digits
 pub mod Lengths
 pub mod Placing
 pub mod Printed
+pub mod Sample
 pub mod Streams
 pub mod Theorems
