@@ -20,6 +20,21 @@
 
 enum { LONGEST_OUTPUT = 20, DIFFERENCES_SHOWN = 5, CODES = 17 };
 
+/* The header's numbers are 01's. */
+_Static_assert((int)VERRIBLOM_ANSWERED == (int)ANSWERED
+                   && (int)VERRIBLOM_NO_READING == (int)REFUSED_NO_READING
+                   && (int)VERRIBLOM_INPUT_NOT_FINITE == (int)REFUSED_NOT_A_NUMBER
+                   && (int)VERRIBLOM_TEMPERATURE_OUTSIDE == (int)REFUSED_TEMPERATURE
+                   && (int)VERRIBLOM_DENSITY_OUTSIDE == (int)REFUSED_DENSITY
+                   && (int)VERRIBLOM_PRESSURE_OUTSIDE == (int)REFUSED_PRESSURE
+                   && (int)VERRIBLOM_OUTPUT_TOO_SHORT == (int)REFUSED_SHORT_LIST
+                   && (int)VERRIBLOM_NO_CELL == (int)REFUSED_NOT_REACHED
+                   && (int)VERRIBLOM_NOT_NEIGHBOURS == (int)REFUSED_HALVINGS
+                   && (int)VERRIBLOM_WORK_NOT_FINITE == (int)REFUSED_NOT_FINITE
+                   && (int)VERRIBLOM_UNKNOWN_MARK == (int)REFUSED_UNKNOWN
+                   && (int)VERRIBLOM_RECORD_CUT_SHORT == (int)REFUSED_CUT_SHORT,
+               "a code of the header is another than 01's");
+
 struct memory {
     uint8_t *record, *out;
     size_t record_page, out_page;
