@@ -16,7 +16,10 @@ use words::put_word;
 use words::word;
 ghost use Prim.Native.Nat.{_*_, _+_, _≤_};
 ghost use mathlib.Core.Path.{_≡_};
-ghost use lib.ListN.{length};
+ghost use mathlib.Core.List.{_++_};
+ghost use lib.ListN.{length, drop};
+ghost use Rattle.search.specs.Lists.{filled};
+ghost use Rattle.lists.specs.Reply.{foundHead, preparedHead, headOf, greatestLeft, leastLeft, numberAt, placeBytes};
 
 // A reply's first three words.
 struct Head {
@@ -28,7 +31,7 @@ struct Head {
 // The numbers of the words of s into the places of list.
 fn read_list(s: &[u8], list: &mut [f64])
     requires { ⌜ 8 * length (now list) ≤ length (now s) ⌝ }
-    ensures { λ _. ⌜ length (now (list .exit)) ≡ length (now (list .entry)) ⌝ }
+    ensures { λ _. ⌜ now (list .exit) ≡ filled (numberAt (now (s .entry))) (length (now (list .entry))) (now (list .entry)) ⌝ }
 {
     let mut i: usize = 0;
     while i < list.len() {
@@ -41,7 +44,7 @@ fn read_list(s: &[u8], list: &mut [f64])
 // The bits of the places of list into the words of out.
 fn put_list(list: &[f64], out: &mut [u8])
     requires { ⌜ 8 * length (now list) ≤ length (now out) ⌝ }
-    ensures { λ _. ⌜ length (now (out .exit)) ≡ length (now (out .entry)) ⌝ }
+    ensures { λ _. ⌜ now (out .exit) ≡ placeBytes (now (list .entry)) (length (now (list .entry))) ++ drop (8 * length (now (list .entry))) (now (out .entry)) ⌝ }
 {
     let mut i: usize = 0;
     while i < list.len() {
@@ -52,25 +55,37 @@ fn put_list(list: &[f64], out: &mut [u8])
     }
 }
 
-fn found_head(found: Found) -> Head {
+fn found_head(found: Found) -> Head
+    ensures { λ r. ⌜ r ≡ foundHead found ⌝ }
+{
+    let code = found_code(found) as u64;
+    let density = found_bits(found);
+    let state = found_word(found);
     Head {
-        code: found_code(found) as u64,
-        bits: found_bits(found),
-        word: found_word(found),
+        code: code,
+        bits: density,
+        word: state,
     }
 }
 
 // A preparation has no density and no word.
-fn prepared_head(prepared: Prepared) -> Head {
+fn prepared_head(prepared: Prepared) -> Head
+    ensures { λ r. ⌜ r ≡ preparedHead prepared ⌝ }
+{
+    let code = prepared_code(prepared) as u64;
     Head {
-        code: prepared_code(prepared) as u64,
+        code: code,
         bits: 18446744073709551615,
         word: 0,
     }
 }
 
 // The outcome of the call, and 14 where there is no call of the number.
-fn head_of(call: u64, t: f64, p: f64, c: usize, greatest: &mut [f64], least: &mut [f64]) -> Head {
+fn head_of(call: u64, t: f64, p: f64, c: usize, greatest: &mut [f64], least: &mut [f64]) -> Head
+    ensures { λ r. ⌜ (r ≡ headOf call t p c (now (greatest .entry)) (now (least .entry)))
+        × (now (greatest .exit) ≡ greatestLeft call t c (now (greatest .entry)) (now (least .entry)))
+        × (now (least .exit) ≡ leastLeft call t c (now (greatest .entry)) (now (least .entry))) ⌝ }
+{
     if call == 0 {
         return found_head(plain(t, p, c, Side::FromBelow));
     }

@@ -1,19 +1,21 @@
--- `put_list` stays inside both slices: the invariant is the length of what is written. Assumes nothing.
-use mathlib.Core.Path.{_≡_}
+-- `put_list` meets its contract. The invariant: the bits of the first i places stand in the first 8·i bytes, and the bytes after them are as they
+-- were; the measure is how many places are left. Assumes nothing.
 use Prim.Native.Nat.{_-_, _≤_}
+use native.Mathlib.Omega.{arith}
 use borrow.Author.Needs.{needs}
 use lib.ListN.{length}
+use Rattle.lists.proofs.WrittenPlaces.{Written, none-written, one-more-written, all-written}
 use Rattle.lists.proofs.reply.put_list.Statement.{statement}
 use Rattle.lists.proofs.reply.put_list.Tie as tie
 
 abbrev Inv-loop : tie.InvT-loop
-Inv-loop list out₀ i₀ out i = (length out ≡ length out₀) × (i ≤ length list)
+Inv-loop list out₀ i₀ out i = (i ≤ length list) × Written list out₀ out i
 
 abbrev μ-loop : tie.MeasureT-loop
 μ-loop list out₀ i₀ out i = length list - i
 
 loop-holds : tie.Need-loop-holds Inv-loop μ-loop
-loop-holds c = search needs
+loop-holds c = (omega arith, none-written _ _)
 
 mul-from : tie.Need-mul-from Inv-loop μ-loop
 mul-from c = search needs
@@ -46,13 +48,17 @@ loop-less : tie.Need-loop-less Inv-loop μ-loop
 loop-less c = search needs
 
 loop-again : tie.Need-loop-again Inv-loop μ-loop
-loop-again c = search needs
+loop-again c =
+    let put = c .before .before in
+    let bits = put .before in
+    let at = bits .before .before .before .before in
+    (omega arith, one-more-written _ _ _ _ _ _ (at .loop .inv .1) (omega arith) (bits .bits .ensures) (put .put-word .ensures))
 
 same-length : tie.Need-same-length Inv-loop μ-loop
-same-length c = search needs
+same-length c = c .before .loop .inv .1 .same
 
 returns : tie.Need-returns Inv-loop μ-loop
-returns c = search needs
+returns c = all-written _ _ _ _ _ (c .before .loop .inv .1) (omega arith)
 
 pub put-list-spec : {M : Type 1} → statement M
 put-list-spec =

@@ -1,0 +1,2 @@
+mod WrittenPlaces
+mod Heads
