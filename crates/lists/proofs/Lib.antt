@@ -1,2 +1,4 @@
 mod WrittenPlaces
 mod Heads
+mod WrittenReply
+mod AskedWords

@@ -9,7 +9,7 @@ use lib.Ieee.{Float, binary64, toBits}
 use Rattle.words.specs.Word.{bytesOf, withWord}
 use Rattle.words.proofs.Tail.{tail-read}
 use Rattle.words.proofs.Written.{bytes-length, word-written}
-use Rattle.words.proofs.Blocks.{Blocks, Put, none-yet, one-more}
+use Rattle.words.proofs.Blocks.{Blocks, Put, all-length, none-yet, one-more}
 use Rattle.search.specs.Quick.{entriesOf}
 use Rattle.lists.specs.Reply.{placeBytes}
 
@@ -19,6 +19,9 @@ placeAt xs k = bytesOf (toBits binary64 (entriesOf xs k))
 places : (xs : List Float) → Blocks 8 (placeAt xs) (placeBytes xs)
 unfolding placeBytes placeAt
 places xs = record { start = refl; next = λ k. refl; size = λ k. bytes-length (toBits binary64 (entriesOf xs k)) }
+
+pub place-bytes-length : (xs : List Float) (k : ℕ) → length (placeBytes xs k) ≡ 8 * k
+place-bytes-length xs k = all-length 8 (placeAt xs) (placeBytes xs) (places xs) k
 
 -- the bits of the first k places stand in out, which was out₀
 abbrev pub Written : List Float → List ℕ → List ℕ → ℕ → Type 0

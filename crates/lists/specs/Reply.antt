@@ -2,8 +2,8 @@
 use mathlib.Core.Bool.{Bool, cond}
 use mathlib.Core.List.{List, [], _++_}
 use Prim.Native.Nat.{ℕ, zero, suc, _+_, _*_, _-_, _^_}
-use lib.Dec.{eqb}
-use lib.ListN.{take, drop}
+use lib.Dec.{eqb, ltb}
+use lib.ListN.{length, take, drop}
 use lib.Ieee.{Float, binary64, ofBits, toBits}
 use Rattle.refusals.specs.declared.Refusal.the-variants.{UnknownMark}
 use Rattle.words.specs.Word.{wordOf, bytesOf}
@@ -42,6 +42,36 @@ greatestLeft call T c G L = cond (eqb call 2) (greatestAfter T c G L) G
 unfoldable pub leastLeft : ℕ → Float → ℕ → List Float → List Float → List Float
 leastLeft call T c G L = cond (eqb call 2) (leastAfter T c G L) L
 
+-- ---- the question
+
+-- how many of the places are lent: as many as asked for, or all
+unfoldable pub lentOf : ℕ → ℕ → ℕ
+lentOf asked places = cond (ltb asked places) asked places
+
+-- the places of G and of L that the question s lends
+abbrev pub lentGreatest : List ℕ → List Float → ℕ
+lentGreatest s G = lentOf (wordOf (drop 32 s)) (length G)
+
+abbrev pub lentLeast : List ℕ → List Float → ℕ
+lentLeast s L = lentOf (wordOf (drop 40 s)) (length L)
+
+-- the outcome of the question s: call, T, P and c are its first words
+unfoldable pub askedHead : List ℕ → List Float → List Float → Head
+askedHead s G L =
+    headOf (wordOf s) (ofBits binary64 (wordOf (drop 8 s))) (ofBits binary64 (wordOf (drop 16 s))) (wordOf (drop 24 s))
+    (take (lentGreatest s G) G) (take (lentLeast s L) L)
+
+-- places that are not lent stay as they were
+unfoldable pub askedGreatest : List ℕ → List Float → List Float → List Float
+askedGreatest s G L =
+    greatestLeft (wordOf s) (ofBits binary64 (wordOf (drop 8 s))) (wordOf (drop 24 s)) (take (lentGreatest s G) G) (take (lentLeast s L) L)
+    ++ drop (lentGreatest s G) G
+
+unfoldable pub askedLeast : List ℕ → List Float → List Float → List Float
+askedLeast s G L =
+    leastLeft (wordOf s) (ofBits binary64 (wordOf (drop 8 s))) (wordOf (drop 24 s)) (take (lentGreatest s G) G) (take (lentLeast s L) L)
+    ++ drop (lentLeast s L) L
+
 -- ---- words
 
 -- the number of the word i of s
@@ -52,3 +82,6 @@ numberAt s i = ofBits binary64 (wordOf (drop (8 * i) s))
 unfoldable pub placeBytes : List Float → ℕ → List ℕ
 placeBytes xs zero = []
 placeBytes xs (suc n) = placeBytes xs n ++ bytesOf (toBits binary64 (entriesOf xs n))
+
+unfoldable pub headBytes : Head → List ℕ
+headBytes head = (bytesOf (head .code) ++ bytesOf (head .bits)) ++ bytesOf (head .word)

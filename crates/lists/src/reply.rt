@@ -17,9 +17,9 @@ use words::word;
 ghost use Prim.Native.Nat.{_*_, _+_, _≤_};
 ghost use mathlib.Core.Path.{_≡_};
 ghost use mathlib.Core.List.{_++_};
-ghost use lib.ListN.{length, drop};
+ghost use lib.ListN.{length, take, drop};
 ghost use Rattle.search.specs.Lists.{filled};
-ghost use Rattle.lists.specs.Reply.{foundHead, preparedHead, headOf, greatestLeft, leastLeft, numberAt, placeBytes};
+ghost use Rattle.lists.specs.Reply.{foundHead, preparedHead, headOf, greatestLeft, leastLeft, numberAt, placeBytes, headBytes, lentOf, askedHead, askedGreatest, askedLeast};
 
 // A reply's first three words.
 struct Head {
@@ -106,7 +106,7 @@ fn head_of(call: u64, t: f64, p: f64, c: usize, greatest: &mut [f64], least: &mu
 
 // How many of the places are lent: as many as asked for, or all.
 fn lent(asked: u64, places: usize) -> usize
-    ensures { λ r. ⌜ r ≤ places ⌝ }
+    ensures { λ r. ⌜ (r ≡ lentOf asked places) × (r ≤ places) ⌝ }
 {
     let wanted = asked as usize;
     if wanted < places { wanted } else { places }
@@ -115,8 +115,9 @@ fn lent(asked: u64, places: usize) -> usize
 // The outcome of the question, over the places that it lends.
 fn asked_head(input: &[u8], greatest: &mut [f64], least: &mut [f64]) -> Head
     requires { ⌜ 48 ≤ length (now input) ⌝ }
-    ensures { λ _. ⌜ length (now (greatest .exit)) ≡ length (now (greatest .entry)) ⌝ }
-    ensures { λ _. ⌜ length (now (least .exit)) ≡ length (now (least .entry)) ⌝ }
+    ensures { λ r. ⌜ (r ≡ askedHead (now (input .entry)) (now (greatest .entry)) (now (least .entry)))
+        × (now (greatest .exit) ≡ askedGreatest (now (input .entry)) (now (greatest .entry)) (now (least .entry)))
+        × (now (least .exit) ≡ askedLeast (now (input .entry)) (now (greatest .entry)) (now (least .entry))) ⌝ }
 {
     let call = word(input);
     let t = number(word(&input[8..]));
@@ -129,7 +130,7 @@ fn asked_head(input: &[u8], greatest: &mut [f64], least: &mut [f64]) -> Head
 
 fn put_head(head: Head, out: &mut [u8])
     requires { ⌜ 24 ≤ length (now out) ⌝ }
-    ensures { λ _. ⌜ length (now (out .exit)) ≡ length (now (out .entry)) ⌝ }
+    ensures { λ _. ⌜ now (out .exit) ≡ headBytes head ++ drop 24 (now (out .entry)) ⌝ }
 {
     let code = head.code;
     let density = head.bits;
@@ -142,7 +143,7 @@ fn put_head(head: Head, out: &mut [u8])
 // Both lists after the head.
 fn put_lists(greatest: &[f64], least: &[f64], out: &mut [u8])
     requires { ⌜ (length (now greatest) ≡ 1700) × (length (now least) ≡ 1700) × (length (now out) ≡ 27224) ⌝ }
-    ensures { λ _. ⌜ length (now (out .exit)) ≡ length (now (out .entry)) ⌝ }
+    ensures { λ _. ⌜ now (out .exit) ≡ (take 24 (now (out .entry)) ++ placeBytes (now (greatest .entry)) 1700) ++ placeBytes (now (least .entry)) 1700 ⌝ }
 {
     put_list(greatest, &mut out[24..]);
     put_list(least, &mut out[13624..]);

@@ -1,9 +1,16 @@
--- `asked_head` reads inside the question and lends no more places than there are. Assumes nothing.
+-- `asked_head` meets its contract: the words are those of the question, and the lists are lent as far as it says. Assumes nothing.
+use Rattle.lists.proofs.AskedWords.{tail-word, tail-number, tail-lent, asked-leaves}
 use mathlib.Core.Path.{sym}
 use lib.Seq.{length-take-le}
 use borrow.Author.Needs.{needs}
 use Rattle.lists.proofs.reply.asked_head.Statement.{statement}
 use Rattle.lists.proofs.reply.asked_head.Tie as tie
+use Rattle.lists.proofs.reply.asked_head.Reads as reads
+use Rattle.lists.proofs.reply.asked_head.Lts as lts
+use Rattle.lists.proofs.reply.head_of.Reads as head-of-reads
+use Rattle.lists.proofs.reply.lent.Reads as lent-reads
+use Rattle.words.proofs.number.Reads as number-reads
+use Rattle.words.proofs.word.Reads as word-reads
 
 word-requires : tie.Need-word-requires
 word-requires c κs = search needs
@@ -84,13 +91,13 @@ slice-relend-prefix-head-of : tie.Need-slice-relend-prefix-head-of
 slice-relend-prefix-head-of c = search needs
 
 slice-aggregate-head-of : tie.Need-slice-aggregate-head-of
-slice-aggregate-head-of c = sym (length-take-le _ _ (c .before .before .before .before .lent .ensures))
+slice-aggregate-head-of c = sym (length-take-le _ _ (c .before .before .before .before .lent .ensures .1))
 
 slice-relend-prefix-head-of-2 : tie.Need-slice-relend-prefix-head-of-2
 slice-relend-prefix-head-of-2 c = search needs
 
 slice-aggregate-head-of-2 : tie.Need-slice-aggregate-head-of-2
-slice-aggregate-head-of-2 c = sym (length-take-le _ _ (c .before .before .lent2 .ensures))
+slice-aggregate-head-of-2 c = sym (length-take-le _ _ (c .before .before .lent2 .ensures .1))
 
 head-of-requires : tie.Need-head-of-requires
 head-of-requires c κs = search needs
@@ -102,7 +109,27 @@ same-length-2 : tie.Need-same-length-2
 same-length-2 c = search needs
 
 returns : tie.Need-returns
-returns c = search needs
+returns c =
+    let head = c .before .before .before .before in
+    let lent-l = head .before .before .before in
+    let word-m = lent-l .before in
+    let lent-g = word-m .before .before in
+    let word-n = lent-g .before in
+    let word-c = word-n .before .before in
+    let number-p = word-c .before .before in
+    let word-p = number-p .before in
+    let number-t = word-p .before .before in
+    let word-t = number-t .before in
+    let word-call = word-t .before .before in
+    let a = word-call .before .before .before .before .args in
+    asked-leaves (a .input .now) (a .greatest .now) (a .least .now) _ _ _ _ _ _ _ _ _
+    (word-call .word .ensures)
+    (tail-number (a .input .now) 8 _ (word-t .word2 .ensures) _ (number-t .number .ensures))
+    (tail-number (a .input .now) 16 _ (word-p .word3 .ensures) _ (number-p .number2 .ensures))
+    (tail-word (a .input .now) 24 _ (word-c .word4 .ensures))
+    (tail-lent (a .input .now) 32 _ (word-n .word5 .ensures) _ _ (lent-g .lent .ensures .0))
+    (tail-lent (a .input .now) 40 _ (word-m .word6 .ensures) _ _ (lent-l .lent2 .ensures .0))
+    (head .head-of .ensures)
 
 pub asked-head-spec : {M : Type 1} → statement M
 asked-head-spec =
