@@ -1,17 +1,20 @@
--- The three words of a head, one after the other, and both lists after them.
+-- The three words of a head, one after the other, both lists after them, and the whole reply.
 use mathlib.Core.Path.{_≡_, sym, _∙_, ap}
 use mathlib.Core.List.{List, [], _++_, append-nil}
 use Prim.Native.Nat.{ℕ, _-_, _*_, _≤_}
 use native.Mathlib.Omega.{arith}
 use borrow.Rule.Slice.PartMut.{putMid}
-use lib.ListN.{length, take, drop, length-append, length-drop, take-append-drop}
-use lib.Seq.{drop-drop, drop-length, length-take-le}
+use lib.ListN.{length, take, drop, replicate, length-append, length-drop, length-replicate, take-append-drop}
+use lib.Seq.{take-at, drop-drop, drop-length, length-take-le}
 use lib.Ieee.{Float}
+use Rattle.arithmetic.specs.Checked.{real}
+use Rattle.search.specs.Lists.{filled}
+use Rattle.search.proofs.Filling.{filled-whole}
 use Rattle.words.specs.Word.{bytesOf, withWord}
-use Rattle.words.proofs.Tail.{front-put}
+use Rattle.words.proofs.Tail.{tail-read, front-put}
 use Rattle.words.proofs.Written.{bytes-length, word-after, two-words}
 use Rattle.lists.specs.declared.reply.Head.{Head}
-use Rattle.lists.specs.Reply.{placeBytes, headBytes}
+use Rattle.lists.specs.Reply.{numberAt, placeBytes, headBytes, askedHead, askedGreatest, askedLeast, placesOf, replyOf}
 use Rattle.lists.proofs.WrittenPlaces.{place-bytes-length}
 
 pub head-written : (head : Head) (s a b d : List ℕ) → 24 ≤ length s → a ≡ withWord (head .code) s → b ≡ withWord (head .bits) (take (length a - 8) (drop 8 a)) →
@@ -37,3 +40,28 @@ module _ (G L : List Float) (out a b : List ℕ) (hG : length G ≡ 1700) (hL : 
       let two = front-put (take 24 out ++ placeBytes G 1700) (drop 13600 (drop 24 out)) _ b (placeBytes L 1700) 13624 13600 size one (rw hL at q) in
       let none : drop 13600 (drop 13600 (drop 24 out)) ≡ [] = simp drop-drop (ap (λ (n : ℕ). drop n out) (sym h) ∙ drop-length out) in
       two ∙ rw none (append-nil _)
+
+-- ---- the whole reply
+
+head-bytes-length : (head : Head) → length (headBytes head) ≡ 24
+unfolding headBytes
+head-bytes-length head = simp (length-append, bytes-length)
+
+-- what a list held before does not show
+pub places-read : (s : List ℕ) (a : ℕ) (xs xs' : List Float) → length xs ≡ 1700 → xs' ≡ filled (numberAt (take (length s - a) (drop a s))) (length xs) xs → xs' ≡ placesOf (drop a s)
+unfolding placesOf
+places-read s a xs xs' h e =
+    e
+    ∙ ap (λ (l : List ℕ). filled (numberAt l) (length xs) xs) (tail-read a s)
+    ∙ ap (λ (n : ℕ). filled (numberAt (drop a s)) n xs) h
+    ∙ filled-whole (numberAt (drop a s)) 1700 xs (replicate 1700 (real 0)) h (length-replicate 1700 (real 0))
+
+pub reply-written :
+    (s : List ℕ) (G L G' L' : List Float) (head : Head) (out out₁ out₂ : List ℕ) →
+    G ≡ placesOf (drop 48 s) → L ≡ placesOf (drop 13648 s) →
+    (head ≡ askedHead s G L) × (G' ≡ askedGreatest s G L) × (L' ≡ askedLeast s G L) →
+    out₁ ≡ headBytes head ++ drop 24 out → out₂ ≡ (take 24 out₁ ++ placeBytes G' 1700) ++ placeBytes L' 1700 → out₂ ≡ replyOf s
+unfolding replyOf
+reply-written s G L G' L' head out out₁ out₂ g l (h, g', l') p q =
+    let first : take 24 out₁ ≡ headBytes head = ap (take 24) p ∙ take-at (headBytes head) (drop 24 out) 24 (head-bytes-length head) in
+    q ∙ simp (first, h, g', l', g, l)

@@ -3,9 +3,10 @@ use mathlib.Core.Bool.{Bool, cond}
 use mathlib.Core.List.{List, [], _++_}
 use Prim.Native.Nat.{ℕ, zero, suc, _+_, _*_, _-_, _^_}
 use lib.Dec.{eqb, ltb}
-use lib.ListN.{length, take, drop}
+use lib.ListN.{length, take, drop, replicate}
 use lib.Ieee.{Float, binary64, ofBits, toBits}
 use Rattle.refusals.specs.declared.Refusal.the-variants.{UnknownMark}
+use Rattle.arithmetic.specs.Checked.{real}
 use Rattle.words.specs.Word.{wordOf, bytesOf}
 use Rattle.search.specs.Lists.{filled}
 use Rattle.search.specs.Quick.{entriesOf}
@@ -85,3 +86,16 @@ placeBytes xs (suc n) = placeBytes xs n ++ bytesOf (toBits binary64 (entriesOf x
 
 unfoldable pub headBytes : Head → List ℕ
 headBytes head = (bytesOf (head .code) ++ bytesOf (head .bits)) ++ bytesOf (head .word)
+
+-- ---- the reply
+
+-- 1,700 numbers
+unfoldable pub placesOf : List ℕ → List Float
+placesOf s = filled (numberAt s) 1700 (replicate 1700 (real 0))
+
+-- the head, then all places of both lists after the call, over the lists that the question holds
+unfoldable pub replyOf : List ℕ → List ℕ
+replyOf s =
+    let G = placesOf (drop 48 s) in
+    let L = placesOf (drop 13648 s) in
+    (headBytes (askedHead s G L) ++ placeBytes (askedGreatest s G L) 1700) ++ placeBytes (askedLeast s G L) 1700

@@ -19,7 +19,7 @@ ghost use mathlib.Core.Path.{_≡_};
 ghost use mathlib.Core.List.{_++_};
 ghost use lib.ListN.{length, take, drop};
 ghost use Rattle.search.specs.Lists.{filled};
-ghost use Rattle.lists.specs.Reply.{foundHead, preparedHead, headOf, greatestLeft, leastLeft, numberAt, placeBytes, headBytes, lentOf, askedHead, askedGreatest, askedLeast};
+ghost use Rattle.lists.specs.Reply.{foundHead, preparedHead, headOf, greatestLeft, leastLeft, numberAt, placeBytes, headBytes, lentOf, askedHead, askedGreatest, askedLeast, replyOf};
 
 // A reply's first three words.
 struct Head {
@@ -152,7 +152,7 @@ fn put_lists(greatest: &[f64], least: &[f64], out: &mut [u8])
 // The reply to the question, with lists that take its places.
 pub(crate) fn put_reply(input: &[u8], greatest: &mut [f64], least: &mut [f64], out: &mut [u8])
     requires { ⌜ (length (now input) ≡ 27248) × (length (now greatest) ≡ 1700) × (length (now least) ≡ 1700) × (length (now out) ≡ 27224) ⌝ }
-    ensures { λ _. ⌜ length (now (out .exit)) ≡ length (now (out .entry)) ⌝ }
+    ensures { λ _. ⌜ now (out .exit) ≡ replyOf (now (input .entry)) ⌝ }
 {
     read_list(&input[48..], greatest);
     read_list(&input[13648..], least);

@@ -5,12 +5,6 @@ use lib.Seq.{length-take-le}
 use borrow.Author.Needs.{needs}
 use Rattle.lists.proofs.reply.asked_head.Statement.{statement}
 use Rattle.lists.proofs.reply.asked_head.Tie as tie
-use Rattle.lists.proofs.reply.asked_head.Reads as reads
-use Rattle.lists.proofs.reply.asked_head.Lts as lts
-use Rattle.lists.proofs.reply.head_of.Reads as head-of-reads
-use Rattle.lists.proofs.reply.lent.Reads as lent-reads
-use Rattle.words.proofs.number.Reads as number-reads
-use Rattle.words.proofs.word.Reads as word-reads
 
 word-requires : tie.Need-word-requires
 word-requires c κs = search needs

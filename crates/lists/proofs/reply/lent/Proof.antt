@@ -5,8 +5,6 @@ use borrow.Author.Tests.{lt-ltb, le-ltb}
 use Rattle.lists.specs.Reply.{lentOf}
 use Rattle.lists.proofs.reply.lent.Statement.{statement}
 use Rattle.lists.proofs.reply.lent.Tie as tie
-use Rattle.lists.proofs.reply.lent.Reads as reads
-use Rattle.lists.proofs.reply.lent.Lts as lts
 
 returns : tie.Need-returns
 unfolding lentOf

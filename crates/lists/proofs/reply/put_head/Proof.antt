@@ -3,9 +3,6 @@ use Rattle.lists.proofs.WrittenReply.{head-written}
 use borrow.Author.Needs.{needs}
 use Rattle.lists.proofs.reply.put_head.Statement.{statement}
 use Rattle.lists.proofs.reply.put_head.Tie as tie
-use Rattle.lists.proofs.reply.put_head.Reads as reads
-use Rattle.lists.proofs.reply.put_head.Lts as lts
-use Rattle.words.proofs.put_word.Reads as put-word-reads
 
 put-word-requires : tie.Need-put-word-requires
 put-word-requires c κs = search needs

@@ -3,9 +3,6 @@ use Rattle.lists.proofs.WrittenReply.{lists-written}
 use borrow.Author.Needs.{needs}
 use Rattle.lists.proofs.reply.put_lists.Statement.{statement}
 use Rattle.lists.proofs.reply.put_lists.Tie as tie
-use Rattle.lists.proofs.reply.put_lists.Reads as reads
-use Rattle.lists.proofs.reply.put_lists.Lts as lts
-use Rattle.lists.proofs.reply.put_list.Reads as put-list-reads
 
 sub-put-list : tie.Need-sub-put-list
 sub-put-list c = search needs
