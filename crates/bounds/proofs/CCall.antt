@@ -1,24 +1,25 @@
 -- The C call answers every record that it permits: where the reading, its two numbers and the room in the output are granted, the
 -- code is 0. So a record's code can only be 0, 1, 2, 3, 4, 5, 7, 14 or 15.
-use mathlib.Core.Path.{_≡_, refl, ap, _∙_, subst}
-use mathlib.Core.Logic.{_↔_}
+use mathlib.Core.Path.{_≡_, refl, ap, subst}
+use mathlib.Core.Logic.{inl, inr}
 use mathlib.Core.List.{List, [], _∷_}
-use mathlib.Core.Bool.{Bool, true, false, not, cond, _&&_}
-use Prim.Native.Nat.{ℕ}
+use mathlib.Core.Bool.{Bool, true, false, cond, _&&_}
+use Prim.Native.Nat.{ℕ, _<_}
 use native.Mathlib.Omega.{arith}
-use lib.Dec.{T, eqb, leb}
+use borrow.Author.Tests.{ltb-true}
+use lib.Dec.{T, eqb, leb, ltb}
 use lib.ListN.{length}
 use lib.Ieee.{Float}
-use lib.Ieee.Fits.{and-i, and-l, and-r}
+use lib.Ieee.Fits.{and-l, and-r}
 use lib.Ieee.Scale.{finite}
 use Rattle.refusals.specs.declared.Refusal.{Refusal}
-use Rattle.refusals.specs.declared.Refusal.the-variants.{NoReading, InputNotFinite, TemperatureOutside, DensityOutside, PressureOutside, TopOutside, TooShort, NoCell, NotEnclosed, NotNeighbours, AtZeroDensity, NotStable, WorkNotFinite, AboveCritical, UnknownMark, CutShort}
+use Rattle.refusals.specs.declared.Refusal.the-variants.{NoReading, InputNotFinite, TemperatureOutside, DensityOutside, PressureOutside, TooShort, UnknownMark, CutShort}
 use Rattle.refusals.specs.declared.Permit.{Permit}
 use Rattle.refusals.specs.declared.Permit.the-variants.{Granted, Denied}
 use Rattle.refusals.specs.declared.Answer.{Answer}
 use Rattle.refusals.specs.declared.Answer.the-variants.{Number}
 use Rattle.refusals.specs.Code.{codeOf, answerCodeOf}
-use Rattle.refusals.specs.Order.{firstOf, permitted}
+use Rattle.refusals.specs.Order.{permitted}
 use Rattle.arithmetic.specs.Checked.{between}
 use Rattle.fluids.specs.R245ca.{r245ca}
 use Rattle.fluids.proofs.Sound.{every}
@@ -31,9 +32,13 @@ use Rattle.records.specs.declared.Reading.{Reading}
 use Rattle.records.specs.declared.Reading.the-variants.{State, Search}
 use Rattle.records.specs.Record.{foundAnswer, densityOf, workOf, askedBy, markOf, readingOf}
 use Rattle.records.specs.Call.{numbersPermit, inputsOf, withRoom, permitOf, callOf, callCode}
+use Rattle.bounds.specs.NoAnswer.{OneOf}
+use Rattle.bounds.specs.Records.{RecordCalls}
+use Rattle.bounds.proofs.Fractions.{is-true}
 use Rattle.bounds.proofs.R245ca.{r245ca-passes}
 use Rattle.bounds.proofs.NeverTwelve.{pressure-answered}
 use Rattle.bounds.proofs.Searches.{every-question-answered}
+use Rattle.bounds.proofs.Codes.{denied-code, by-permit}
 
 -- ---- permitted numbers are those that the calls permit
 state-permitted : (t ρ : Float) → inputsOf (State t ρ) ≡ Granted → statePermit r245ca t ρ ≡ Granted
@@ -56,43 +61,32 @@ work-answered (Search t P side) ok =
     (density, unfold densityOf in ap foundAnswer e)
 work-answered (Reading.Refused r) ok = let z : _≡_ {A = ℕ} 0 1 = cc in absurd (omega arith)
 
--- ---- the codes that a record's permit can deny with
-abbrev among : ℕ → List ℕ → Bool
-among n [] = false
-among n (x ∷ xs) = cond (eqb n x) true (among n xs)
-
--- 0 apart: 15, 14, 1, 2, 3, 4, 5, 7
-abbrev pub recordCode : ℕ → Bool
-recordCode n = among n (0 ∷ 1 ∷ 2 ∷ 3 ∷ 4 ∷ 5 ∷ 7 ∷ 14 ∷ 15 ∷ [])
+-- ---- the refusals that a record's permit can deny with
+abbrev refusalCodes : List ℕ
+refusalCodes = 1 ∷ 2 ∷ 3 ∷ 4 ∷ 5 ∷ 7 ∷ 14 ∷ 15 ∷ []
 
 abbrev Listed : Permit → Type 0
-Listed Granted = Unit {0}
-Listed (Denied r) = T (recordCode (codeOf r))
+Listed p = (r : Refusal) → p ≡ Denied r → OneOf (codeOf r) refusalCodes
 
-first-listed : (tests : List (Bool × Refusal)) → T (every (λ test. recordCode (codeOf (test .1))) tests) → Listed (firstOf tests)
-first-listed [] ok = tt
-first-listed (x ∷ xs) ok = go (x .0) (first-listed xs (and-r (recordCode (codeOf (x .1))) _ ok))
-  where
-    go : (b : Bool) → Listed (firstOf xs) → Listed (cond b (firstOf xs) (Denied (x .1)))
-    go true later = later
-    go false later = and-l (recordCode (codeOf (x .1))) _ ok
+one-listed : (e : Refusal) → OneOf (codeOf e) refusalCodes → Listed (Denied e)
+one-listed e h r d = let same : e ≡ r = cc in subst (λ (x : Refusal). OneOf (codeOf x) refusalCodes) same h
 
-numbers-listed : (t x least greatest : Float) (r : Refusal) → T (recordCode (codeOf r)) → Listed (numbersPermit t x least greatest r)
+numbers-listed : (t x least greatest : Float) (e : Refusal) → OneOf (codeOf e) refusalCodes → Listed (numbersPermit t x least greatest e)
 unfolding numbersPermit
-numbers-listed t x least greatest r h =
-    first-listed
+numbers-listed t x least greatest e h =
+    denied-code refusalCodes
     ((finite t && finite x, InputNotFinite)
     ∷ (between (r245ca .leastT) t (r245ca .greatestT), TemperatureOutside)
-    ∷ (between least x greatest, r)
-    ∷ []) (and-i (recordCode (codeOf r)) true h tt)
+    ∷ (between least x greatest, e)
+    ∷ []) (inr (inl refl), (inr (inr (inl refl)), (h, tt)))
 
 marked-listed : (mark : Mark) (s : List ℕ) → Listed (inputsOf (askedBy mark s))
-marked-listed TD s = numbers-listed _ _ _ _ DensityOutside tt
-marked-listed TB s = numbers-listed _ _ _ _ PressureOutside tt
-marked-listed TA s = numbers-listed _ _ _ _ PressureOutside tt
-marked-listed TP s = numbers-listed _ _ _ _ PressureOutside tt
-marked-listed TN s = tt
-marked-listed Unknown s = tt
+marked-listed TD s = numbers-listed _ _ _ _ DensityOutside (inr (inr (inr (inl refl))))
+marked-listed TB s = numbers-listed _ _ _ _ PressureOutside (inr (inr (inr (inr (inl refl)))))
+marked-listed TA s = numbers-listed _ _ _ _ PressureOutside (inr (inr (inr (inr (inl refl)))))
+marked-listed TP s = numbers-listed _ _ _ _ PressureOutside (inr (inr (inr (inr (inl refl)))))
+marked-listed TN s = one-listed NoReading (inl refl)
+marked-listed Unknown s = one-listed UnknownMark (inr (inr (inr (inr (inr (inr (inl refl)))))))
 
 reading-listed : (s : List ℕ) → Listed (inputsOf (readingOf s))
 unfolding readingOf
@@ -100,10 +94,10 @@ reading-listed s = go (eqb (length s) 18)
   where
     go : (b : Bool) → Listed (inputsOf (cond b (askedBy (markOf s) s) (Reading.Refused CutShort)))
     go true = marked-listed (markOf s) s
-    go false = tt
+    go false = one-listed CutShort (inr (inr (inr (inr (inr (inr (inr (inl refl))))))))
 
 room-listed : (p : Permit) (room : ℕ) → Listed p → Listed (withRoom p room)
-room-listed Granted room ok = first-listed ((leb 8 room, TooShort) ∷ []) tt
+room-listed Granted room ok = denied-code refusalCodes ((leb 8 room, TooShort) ∷ []) (inr (inr (inr (inr (inr (inl refl))))), tt)
 room-listed (Denied r) room ok = ok
 
 -- the room is asked for after the inputs
@@ -112,38 +106,14 @@ inputs-granted Granted room ok = refl
 inputs-granted (Denied r) room ok = let z : _≡_ {A = ℕ} 0 1 = cc in absurd (omega arith)
 
 -- ---- the call
--- what a permit and its work hand out, by the permit
-code-of : (p : Permit) (a : Answer) → (p ≡ Granted → Answered a) → Listed p → T (recordCode (answerCodeOf (permitted p a)))
-unfolding Answered
-code-of Granted a work listed = let (x, e) = work refl in rw e tt
-code-of (Denied r) a work listed = listed
-
--- no refusal has the number 0
-refusal-not-0 : (r : Refusal) → T (not (eqb (codeOf r) 0))
-refusal-not-0 NoReading = tt
-refusal-not-0 InputNotFinite = tt
-refusal-not-0 TemperatureOutside = tt
-refusal-not-0 DensityOutside = tt
-refusal-not-0 PressureOutside = tt
-refusal-not-0 TopOutside = tt
-refusal-not-0 TooShort = tt
-refusal-not-0 NoCell = tt
-refusal-not-0 NotEnclosed = tt
-refusal-not-0 NotNeighbours = tt
-refusal-not-0 AtZeroDensity = tt
-refusal-not-0 NotStable = tt
-refusal-not-0 WorkNotFinite = tt
-refusal-not-0 AboveCritical = tt
-refusal-not-0 UnknownMark = tt
-refusal-not-0 CutShort = tt
-
-granted-by-code : (p : Permit) (a : Answer) → answerCodeOf (permitted p a) ≡ 0 → p ≡ Granted
-granted-by-code Granted a e = refl
-granted-by-code (Denied r) a e = absurd (subst (λ (n : ℕ). T (not (eqb n 0))) e (refusal-not-0 r))
-
 code-where-granted : (p : Permit) (a : Answer) → (p ≡ Granted → Answered a) → p ≡ Granted → answerCodeOf (permitted p a) ≡ 0
 unfolding Answered
 code-where-granted p a work g = let (x, e) = work g in rw (g, e)
+
+-- 0 is no refusal's number
+above-0 : (codes : List ℕ) → T (every (ltb 0) codes) → (n : ℕ) → OneOf n codes → 0 < n
+above-0 (x ∷ xs) ok n (inl h) = let positive = ltb-true 0 x (is-true (ltb 0 x) (and-l (ltb 0 x) (every (ltb 0) xs) ok)) in omega arith
+above-0 (x ∷ xs) ok n (inr h) = above-0 xs (and-r (ltb 0 x) (every (ltb 0) xs) ok) n h
 
 module _ (s out : List ℕ) where
   permit : Permit
@@ -153,20 +123,24 @@ module _ (s out : List ℕ) where
   unfolding permit permitOf
   answered-there g = work-answered (readingOf s) (inputs-granted (inputsOf (readingOf s)) (length out) g)
 
-  -- a record gets a number exactly where its mark, its two numbers and the room in the output are permitted
-  pub answered-exactly : (callCode s out ≡ 0) ↔ (permitOf (readingOf s) (length out) ≡ Granted)
+  permit-listed : Listed permit
+  unfolding permit permitOf
+  permit-listed = room-listed (inputsOf (readingOf s)) (length out) (reading-listed s)
+
+  call-code : OneOf (callCode s out) (0 ∷ refusalCodes)
   unfolding permit callCode callOf
-  answered-exactly = (granted-by-code permit (workOf (readingOf s)), code-where-granted permit (workOf (readingOf s)) answered-there)
+  call-code =
+      by-permit permit
+      (λ g. inl (code-where-granted permit (workOf (readingOf s)) answered-there g))
+      (λ r d. rw d (inr (permit-listed r d)))
 
-  -- whatever the bytes are, the code is one of these
-  pub call-codes : T (recordCode (callCode s out))
-  unfolding permit permitOf callCode callOf
-  call-codes = code-of permit (workOf (readingOf s)) answered-there (room-listed (inputsOf (readingOf s)) (length out) (reading-listed s))
+  granted-by-code : callCode s out ≡ 0 → permit ≡ Granted
+  unfolding permit callCode callOf
+  granted-by-code e = by-permit permit (λ g. g) (λ r d. let positive = above-0 refusalCodes tt (codeOf r) (permit-listed r d) in let zero : codeOf r ≡ 0 = rw d at e in absurd (omega arith))
 
--- ---- so every record with permitted numbers and an output of 8 bytes is answered
-pub search-record-answered :
-    (s out : List ℕ) (t P : Float) (side : Side) → readingOf s ≡ Search t P side → searchInputsOf t P 1664 true ≡ Granted → leb 8 (length out) ≡ true →
-    callCode s out ≡ 0
-unfolding permitOf numbersPermit searchInputsOf firstRefusalOf temperaturePermittedOf pressurePermittedOf topPermittedOf r245ca
-search-record-answered s out t P side e ok room =
-    answered-exactly s out .1 (rw e (ap (λ (p : Permit). withRoom p (length out)) ok ∙ rw room))
+pub record-calls : RecordCalls
+unfolding permit callCode callOf
+record-calls = record {
+  answered = λ s out. (granted-by-code s out, code-where-granted (permit s out) (workOf (readingOf s)) (answered-there s out));
+  code = call-code;
+}
