@@ -1,5 +1,5 @@
 -- A fluid's entry passes one computed test, its whole range worked as one interval, and then no value of V, K, Q and the
--- properties is anything but finite in that range: isobaric heat capacity where Q is not under 2⁻²¹⁵, and the three with ln δ where δ is not
+-- properties is anything but finite in that range: isobaric heat capacity where Q is not under 2⁻⁹³⁰, and the three with ln δ where δ is not
 -- under 2⁻⁶⁰.
 use mathlib.Core.Bool.{Bool, _&&_}
 use lib.Dec.{T}
@@ -44,7 +44,7 @@ pub record Finite (F : Fluid) (t r : Float) : Type 0 where
   pub v : T (finite («V» F t r))
   pub k : T (finite (K F t r))
   pub q : T (finite (Q F t r))
-  pub isobaric : T (le (two⁻ 215) (Q F t r)) → T (finite (isobaricValue F t r))
+  pub isobaric : T (le (two⁻ 930) (Q F t r)) → T (finite (isobaricValue F t r))
   pub helmholtz : T (le (two⁻ 60) (δ F t r)) → T (finite (helmholtzValue F t r))
   pub gibbs : T (le (two⁻ 60) (δ F t r)) → T (finite (gibbsValue F t r))
   pub entropy : T (le (two⁻ 60) (δ F t r)) → T (finite (entropyValue F t r))

@@ -206,6 +206,28 @@ from-on-in c x f g (inside {l} {h} a) = interval-holds (greater l c) h (a .here)
     go true = order-of-test c x f (a .here) g
     go false = a .above
 
+-- ---- the part up to c
+unfoldable pub upTo : Float → Interval → Interval
+upTo c unknown = unknown
+upTo c (ends l h) = interval l (lesser h c)
+
+pub up-to-in : {I : Interval} (c x : Float) → T (finite c) → T (le x c) → In I x → In (upTo c I) x
+unfolding upTo lesser pick
+up-to-in c x f g anything = anything
+up-to-in c x f g (inside {l} {h} a) = interval-holds l (lesser h c) (a .here) (λ p. a .above) (λ p. go (le c h))
+  where
+    go : (t : Bool) → Le x (pick t h c)
+    go true = order-of-test x c (a .here) f g
+    go false = a .below
+
+-- x ≤ c or c ≤ x
+pub either-side : {X : Type 0} (x c : Float) → T (finite x) → T (finite c) → (T (le x c) → X) → (T (le c x) → X) → X
+either-side {X} x c p q low high = go (le x c) (λ t. t) (λ n. test-of-order c x q p (Le-total x c (λ (g : Le x c). n (test-of-order x c p q g))))
+  where
+    go : (b : Bool) → (T b → T (le x c)) → ((T b → ⊥) → T (le c x)) → X
+    go true k n = low (k tt)
+    go false k n = high (n (λ t. t))
+
 -- ---- computed first: f I, for an interval that f uses more than once
 infixl 2 _▶_
 unfoldable pub _▶_ : {A : Type 0} → Interval → (Interval → A) → A

@@ -5,30 +5,30 @@ use lib.Ieee.{ofInt, round, le, lt, eq, neg, add, sub, mul, div, fits, toBits, o
 use Rattle.arithmetic.specs.Checked.{real, minus}
 use Rattle.arithmetic.specs.Ln.{mOf, eOf}
 use Rattle.fluids.specs.R245ca.{r245ca}
-use Rattle.bounds.proofs.Interval.{interval, pick, lesser, greater, hull, across, fromOn, _▶_, lies}
+use Rattle.bounds.proofs.Interval.{interval, pick, lesser, greater, hull, across, fromOn, upTo, _▶_, lies}
 use Rattle.bounds.proofs.Sum.{_⊞_, _⊟_, negated}
 use Rattle.bounds.proofs.Product.{_⊠_, productBy, scaled, fourProducts}
 use Rattle.bounds.proofs.Quotient.{_÷_, quotients, onlyIf}
 use Rattle.bounds.proofs.Functions.{expOver, expStepsOver, squaredOver, _⇈_, powerOver}
 use Rattle.bounds.proofs.Exponents.{before}
 use Rattle.bounds.proofs.Logarithm.{lnOver, lnBy, lnLowest, lnHighest, lnBetween, lnWorkOver, lnStepsOver}
-use Rattle.bounds.proofs.Rows.{powerAtOver, bellAtOver, xAtOver, rowAtOver, rowComputed, sumsComputed, addRowOver, termOver, sumsToOver, sumsOver, s1ToOver, s1Over}
+use Rattle.bounds.proofs.Rows.{squareBy, square, powerAtOver, bellAtOver, xAtOver, rowAtOver, rowComputed, sumsComputed, addRowOver, termOver, sumsToOver, sumsOver, s1ToOver, s1Over}
 use Rattle.bounds.proofs.State.{part0Over, part1Over, part2Over, totalToOver, I0Over, I1Over, I2Over, finished, stateOver}
 use Rattle.bounds.proofs.Entry.{passes}
 use Rattle.bounds.proofs.Estimates.{estimateOver, estimateAtOver, plusOver, estimatesOver, estimatesKnown, estimateEnds}
 use Rattle.bounds.proofs.Top.{pressureOver, Rises, slice, slice-rises, joined}
 
 pub r245ca-passes : T (passes r245ca)
-unfolding r245ca interval pick lesser greater hull across fromOn _▶_ lies _⊞_ _⊟_ negated _⊠_ productBy scaled fourProducts _÷_ quotients onlyIf expOver expStepsOver squaredOver _⇈_ lnOver lnBy lnLowest lnHighest lnBetween before lnWorkOver lnStepsOver powerAtOver bellAtOver xAtOver rowAtOver rowComputed sumsComputed addRowOver termOver sumsToOver sumsOver part0Over part1Over part2Over totalToOver I0Over I1Over I2Over finished stateOver mOf eOf minus fits toBits ofBits ofInt round le lt eq neg add sub mul div
+unfolding r245ca interval pick lesser greater hull across fromOn upTo _▶_ lies _⊞_ _⊟_ negated _⊠_ productBy scaled fourProducts _÷_ quotients onlyIf expOver expStepsOver squaredOver _⇈_ lnOver lnBy lnLowest lnHighest lnBetween before lnWorkOver lnStepsOver squareBy square powerAtOver bellAtOver xAtOver rowAtOver rowComputed sumsComputed addRowOver termOver sumsToOver sumsOver part0Over part1Over part2Over totalToOver I0Over I1Over I2Over finished stateOver mOf eOf minus fits toBits ofBits ofInt round le lt eq neg add sub mul div
 r245ca-passes = tt
 
 -- five slices of temperature
 from-196-to-283 : T (slice r245ca (real 196) (real 213)) × T (slice r245ca (real 213) (real 240)) × T (slice r245ca (real 240) (real 283))
-unfolding r245ca interval pick lesser greater hull across fromOn _▶_ lies _⊞_ _⊟_ negated _⊠_ productBy scaled fourProducts _÷_ quotients onlyIf expOver expStepsOver squaredOver _⇈_ lnOver lnBy lnLowest lnHighest lnBetween before lnWorkOver lnStepsOver powerAtOver bellAtOver xAtOver rowAtOver termOver s1ToOver s1Over pressureOver mOf eOf minus fits toBits ofBits ofInt round le lt eq neg add sub mul div
+unfolding r245ca interval pick lesser greater hull across fromOn upTo _▶_ lies _⊞_ _⊟_ negated _⊠_ productBy scaled fourProducts _÷_ quotients onlyIf expOver expStepsOver squaredOver _⇈_ lnOver lnBy lnLowest lnHighest lnBetween before lnWorkOver lnStepsOver squareBy square powerAtOver bellAtOver xAtOver rowAtOver termOver s1ToOver s1Over pressureOver mOf eOf minus fits toBits ofBits ofInt round le lt eq neg add sub mul div
 from-196-to-283 = (tt, tt, tt)
 
 from-283-to-450 : T (slice r245ca (real 283) (real 345)) × T (slice r245ca (real 345) (real 450))
-unfolding r245ca interval pick lesser greater hull across fromOn _▶_ lies _⊞_ _⊟_ negated _⊠_ productBy scaled fourProducts _÷_ quotients onlyIf expOver expStepsOver squaredOver _⇈_ lnOver lnBy lnLowest lnHighest lnBetween before lnWorkOver lnStepsOver powerAtOver bellAtOver xAtOver rowAtOver termOver s1ToOver s1Over pressureOver mOf eOf minus fits toBits ofBits ofInt round le lt eq neg add sub mul div
+unfolding r245ca interval pick lesser greater hull across fromOn upTo _▶_ lies _⊞_ _⊟_ negated _⊠_ productBy scaled fourProducts _÷_ quotients onlyIf expOver expStepsOver squaredOver _⇈_ lnOver lnBy lnLowest lnHighest lnBetween before lnWorkOver lnStepsOver squareBy square powerAtOver bellAtOver xAtOver rowAtOver termOver s1ToOver s1Over pressureOver mOf eOf minus fits toBits ofBits ofInt round le lt eq neg add sub mul div
 from-283-to-450 = (tt, tt)
 
 pub r245ca-rises : Rises r245ca (r245ca .leastT) (r245ca .greatestT)
@@ -46,5 +46,5 @@ unfolding r245ca interval pick lesser greater hull across lies _⊞_ _⊟_ negat
 r245ca-estimate-ends = tt
 
 pub r245ca-estimates : T (estimatesKnown r245ca)
-unfolding r245ca interval pick lesser greater hull across fromOn _▶_ lies _⊞_ _⊟_ negated _⊠_ productBy scaled fourProducts _÷_ quotients onlyIf expOver expStepsOver squaredOver powerOver lnOver lnBy lnLowest lnHighest lnBetween before lnWorkOver lnStepsOver estimateOver estimateAtOver plusOver estimatesOver estimatesKnown mOf eOf minus fits toBits ofBits ofInt round le lt eq neg add sub mul div
+unfolding r245ca interval pick lesser greater hull across fromOn upTo _▶_ lies _⊞_ _⊟_ negated _⊠_ productBy scaled fourProducts _÷_ quotients onlyIf expOver expStepsOver squaredOver powerOver lnOver lnBy lnLowest lnHighest lnBetween before lnWorkOver lnStepsOver estimateOver estimateAtOver plusOver estimatesOver estimatesKnown mOf eOf minus fits toBits ofBits ofInt round le lt eq neg add sub mul div
 r245ca-estimates = tt

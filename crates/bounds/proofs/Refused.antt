@@ -5,13 +5,13 @@ use lib.Ieee.{ofInt, round, le, lt, eq, neg, add, sub, mul, div, fits, toBits, o
 use Rattle.arithmetic.specs.Checked.{real, minus}
 use Rattle.arithmetic.specs.Ln.{mOf, eOf}
 use Rattle.fluids.specs.R245ca.{r245ca}
-use Rattle.bounds.proofs.Interval.{interval, pick, lesser, greater, hull, across, fromOn, _▶_, lies}
+use Rattle.bounds.proofs.Interval.{interval, pick, lesser, greater, hull, across, fromOn, upTo, _▶_, lies}
 use Rattle.bounds.proofs.Sum.{_⊞_, _⊟_, negated}
 use Rattle.bounds.proofs.Product.{_⊠_, productBy, scaled, fourProducts}
 use Rattle.bounds.proofs.Quotient.{_÷_, quotients, onlyIf}
 use Rattle.bounds.proofs.Exponents.{before}
 use Rattle.bounds.proofs.Logarithm.{lnOver, lnBy, lnLowest, lnHighest, lnBetween, lnWorkOver, lnStepsOver}
-use Rattle.bounds.proofs.Rows.{powerAtOver, bellAtOver, xAtOver, rowAtOver, rowComputed, sumsComputed, addRowOver, termOver, sumsToOver, sumsOver, s1ToOver, s1Over}
+use Rattle.bounds.proofs.Rows.{squareBy, square, powerAtOver, bellAtOver, xAtOver, rowAtOver, rowComputed, sumsComputed, addRowOver, termOver, sumsToOver, sumsOver, s1ToOver, s1Over}
 use Rattle.bounds.proofs.State.{part0Over, part1Over, part2Over, totalToOver, I0Over, I1Over, I2Over, finished, stateOver}
 use Rattle.bounds.proofs.Entry.{passes}
 use Rattle.bounds.specs.Variants.{colder, steeper, thinner}
@@ -20,15 +20,15 @@ use Rattle.bounds.proofs.Top.{pressureOver, slice}
 
 -- at 100 K the exponent of row 14 is under −700
 pub colder-fails : passes colder ≡ false
-unfolding r245ca interval pick lesser greater hull across fromOn _▶_ lies _⊞_ _⊟_ negated _⊠_ productBy scaled fourProducts _÷_ quotients onlyIf expOver expStepsOver squaredOver _⇈_ lnOver lnBy lnLowest lnHighest lnBetween before lnWorkOver lnStepsOver powerAtOver bellAtOver xAtOver rowAtOver rowComputed sumsComputed addRowOver termOver sumsToOver sumsOver part0Over part1Over part2Over totalToOver I0Over I1Over I2Over finished stateOver mOf eOf minus fits toBits ofBits ofInt round le lt eq neg add sub mul div
+unfolding r245ca interval pick lesser greater hull across fromOn upTo _▶_ lies _⊞_ _⊟_ negated _⊠_ productBy scaled fourProducts _÷_ quotients onlyIf expOver expStepsOver squaredOver _⇈_ lnOver lnBy lnLowest lnHighest lnBetween before lnWorkOver lnStepsOver squareBy square powerAtOver bellAtOver xAtOver rowAtOver rowComputed sumsComputed addRowOver termOver sumsToOver sumsOver part0Over part1Over part2Over totalToOver I0Over I1Over I2Over finished stateOver mOf eOf minus fits toBits ofBits ofInt round le lt eq neg add sub mul div
 colder-fails = refl
 
 -- and so it is at 196 K with a β ten times as large
 pub steeper-fails : passes steeper ≡ false
-unfolding r245ca interval pick lesser greater hull across fromOn _▶_ lies _⊞_ _⊟_ negated _⊠_ productBy scaled fourProducts _÷_ quotients onlyIf expOver expStepsOver squaredOver _⇈_ lnOver lnBy lnLowest lnHighest lnBetween before lnWorkOver lnStepsOver powerAtOver bellAtOver xAtOver rowAtOver rowComputed sumsComputed addRowOver termOver sumsToOver sumsOver part0Over part1Over part2Over totalToOver I0Over I1Over I2Over finished stateOver mOf eOf minus fits toBits ofBits ofInt round le lt eq neg add sub mul div
+unfolding r245ca interval pick lesser greater hull across fromOn upTo _▶_ lies _⊞_ _⊟_ negated _⊠_ productBy scaled fourProducts _÷_ quotients onlyIf expOver expStepsOver squaredOver _⇈_ lnOver lnBy lnLowest lnHighest lnBetween before lnWorkOver lnStepsOver squareBy square powerAtOver bellAtOver xAtOver rowAtOver rowComputed sumsComputed addRowOver termOver sumsToOver sumsOver part0Over part1Over part2Over totalToOver I0Over I1Over I2Over finished stateOver mOf eOf minus fits toBits ofBits ofInt round le lt eq neg add sub mul div
 steeper-fails = refl
 
 -- at 10 mol/dm³ the pressure is not above every permitted one
 pub thinner-fails : slice thinner (real 196) (real 213) ≡ false
-unfolding r245ca interval pick lesser greater hull across fromOn _▶_ lies _⊞_ _⊟_ negated _⊠_ productBy scaled fourProducts _÷_ quotients onlyIf expOver expStepsOver squaredOver _⇈_ lnOver lnBy lnLowest lnHighest lnBetween before lnWorkOver lnStepsOver powerAtOver bellAtOver xAtOver rowAtOver termOver s1ToOver s1Over pressureOver mOf eOf minus fits toBits ofBits ofInt round le lt eq neg add sub mul div
+unfolding r245ca interval pick lesser greater hull across fromOn upTo _▶_ lies _⊞_ _⊟_ negated _⊠_ productBy scaled fourProducts _÷_ quotients onlyIf expOver expStepsOver squaredOver _⇈_ lnOver lnBy lnLowest lnHighest lnBetween before lnWorkOver lnStepsOver squareBy square powerAtOver bellAtOver xAtOver rowAtOver termOver s1ToOver s1Over pressureOver mOf eOf minus fits toBits ofBits ofInt round le lt eq neg add sub mul div
 thinner-fails = refl

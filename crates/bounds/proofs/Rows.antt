@@ -1,12 +1,14 @@
 -- A term's A, q, r, f, g at δ and τ in intervals, and the six sums over a table, lie in the intervals worked by the same formulas.
 use mathlib.Core.Path.{_≡_, refl}
+use mathlib.Core.Bool.{Bool, true, false, _&&_}
 use mathlib.Core.List.{List, [], _∷_, map}
 use Prim.Native.Nat.{ℕ, zero, suc, _<_, _≤_}
 use native.Mathlib.Nat.{not-suc-le-zero, le-of-suc-le-suc, le-of-lt, le-refl}
 use lib.ListN.{getD, length}
 use lib.Dec.{T}
 use lib.IntN.{pos}
-use lib.Ieee.{Float, nan, binary64, fits}
+use lib.Ieee.{Float, nan, binary64, fits, lt, ofInt, round}
+use lib.Ieee.Scale.{finite}
 use lib.Ieee.Fits.{ofInt-fits}
 use Rattle.arithmetic.specs.Checked.{real, squash, _⊗_, _⊘_}
 use Rattle.arithmetic.specs.Ln.{lnOf}
@@ -22,11 +24,40 @@ use Rattle.equation.specs.declared.sums.Sums.{Sums}
 use Rattle.equation.specs.Rows.{exponentOf, powerAt, bellAt, xAt, rowAt}
 use Rattle.equation.specs.Sums.{rowFirst, sumsFirst, addRow, rowOf, sumsTo}
 use Rattle.equation.specs.Kept.{keptOf, sumsAt}
-use Rattle.bounds.proofs.Interval.{Interval, In, point, at, squash-in, _▶_, computed}
+use Rattle.bounds.proofs.Interval.{Interval, unknown, ends, In, anything, inside, point, at, squash-in, hull, hull-left, hull-right, fromOn, from-on-in, upTo, up-to-in, either-side, _▶_, computed}
 use Rattle.bounds.proofs.Representable.{sum-fits}
 use Rattle.bounds.proofs.Sum.{_⊞_, _⊟_, negated, _⟨⊕⟩_, _⟨⊖⟩_, ⟨minus⟩}
 use Rattle.bounds.proofs.Product.{_⊠_, _⟨⊗⟩_}
 use Rattle.bounds.proofs.Functions.{expOver, ⟨exp⟩, _⇈_, ⟨↑⟩}
+
+-- ---- n·u·u, whose sign is n's: by the sign of u where both can be
+abbrev straddles : Interval → Bool
+straddles unknown = false
+straddles (ends l h) = lt l (real 0) && lt (real 0) h
+
+unfoldable pub squareBy : Bool → Interval → Interval → Interval
+squareBy true N U = hull (N ⊠ upTo (real 0) U ⊠ upTo (real 0) U) (N ⊠ fromOn (real 0) U ⊠ fromOn (real 0) U)
+squareBy false N U = N ⊠ U ⊠ U
+
+unfoldable pub square : Interval → Interval → Interval
+square N U = squareBy (straddles U) N U
+
+finite-0 : T (finite (real 0))
+unfolding ofInt round
+finite-0 = tt
+
+square-by : {N U : Interval} {n u : Float} (b : Bool) → In N n → In U u → In (squareBy b N U) (n ⊗ u ⊗ u)
+unfolding squareBy upTo
+square-by true a anything = hull-left _ (a ⟨⊗⟩ anything ⟨⊗⟩ anything)
+square-by {u = u} true a (inside b) =
+    either-side u (real 0) (b .here) finite-0
+    (λ low. let v = up-to-in (real 0) u finite-0 low (inside b) in hull-left _ (a ⟨⊗⟩ v ⟨⊗⟩ v))
+    (λ high. let v = from-on-in (real 0) u finite-0 high (inside b) in hull-right _ (a ⟨⊗⟩ v ⟨⊗⟩ v))
+square-by false a b = a ⟨⊗⟩ b ⟨⊗⟩ b
+
+⟨square⟩ : {N U : Interval} {n u : Float} → In N n → In U u → In (square N U) (n ⊗ u ⊗ u)
+unfolding square
+⟨square⟩ {U = U} a b = square-by (straddles U) a b
 
 -- ---- the powers, the bells' parts and X
 unfoldable pub powerAtOver : Interval → Term → Interval
@@ -35,12 +66,12 @@ powerAtOver Y term = expOver (point (exponentOf term) ⊠ Y)
 unfoldable pub bellAtOver : Interval → Term → Interval
 bellAtOver Θ (Plain N t d) = point (real 0)
 bellAtOver Θ (Damped N t d l) = point (real 0)
-bellAtOver Θ (Bell N t d η β γ ε) = Θ ⊟ point γ ▶ λ U. point β ⊠ U ⊠ U
+bellAtOver Θ (Bell N t d η β γ ε) = Θ ⊟ point γ ▶ square (point β)
 
 unfoldable pub xAtOver : Interval → Interval → Term → Interval
 xAtOver Δ B (Plain N t d) = point (real 1)
 xAtOver Δ B (Damped N t d l) = expOver (negated (Δ ⇈ l))
-xAtOver Δ B (Bell N t d η β γ ε) = Δ ⊟ point ε ▶ λ U. expOver (negated (point η) ⊠ U ⊠ U ⊟ B)
+xAtOver Δ B (Bell N t d η β γ ε) = Δ ⊟ point ε ▶ λ U. expOver (square (negated (point η)) U ⊟ B)
 
 power-in : {Y : Interval} {y : Float} (term : Term) → In Y y → In (powerAtOver Y term) (powerAt y term)
 unfolding powerAtOver powerAt
@@ -50,13 +81,13 @@ bell-in : {Θ : Interval} {τ : Float} (term : Term) → In Θ τ → In (bellAt
 unfolding bellAtOver bellAt
 bell-in (Plain N t d) a = at (real 0)
 bell-in (Damped N t d l) a = at (real 0)
-bell-in (Bell N t d η β γ ε) a = simp computed (at β ⟨⊗⟩ (a ⟨⊖⟩ at γ) ⟨⊗⟩ (a ⟨⊖⟩ at γ))
+bell-in (Bell N t d η β γ ε) a = simp computed (⟨square⟩ (at β) (a ⟨⊖⟩ at γ))
 
 x-in : {Δ B : Interval} {δ b : Float} (term : Term) → In Δ δ → In B b → In (xAtOver Δ B term) (xAt δ b term)
 unfolding xAtOver xAt
 x-in (Plain N t d) a p = at (real 1)
 x-in (Damped N t d l) a p = ⟨exp⟩ (⟨minus⟩ (⟨↑⟩ l a))
-x-in (Bell N t d η β γ ε) a p = simp computed (⟨exp⟩ (⟨minus⟩ (at η) ⟨⊗⟩ (a ⟨⊖⟩ at ε) ⟨⊗⟩ (a ⟨⊖⟩ at ε) ⟨⊖⟩ p))
+x-in (Bell N t d η β γ ε) a p = simp computed (⟨exp⟩ (⟨square⟩ (⟨minus⟩ (at η)) (a ⟨⊖⟩ at ε) ⟨⊖⟩ p))
 
 -- ---- a row
 pub data RowOver : Type 0 where

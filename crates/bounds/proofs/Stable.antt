@@ -1,6 +1,6 @@
 -- Isobaric heat capacity and sound speed: V, K and Q are always numbers, so 12 comes only after 11 has been passed. Sound speed then
 -- refuses exactly where the root's argument leaves 1 .. 10⁸. Isobaric heat capacity answers unless 1 + 2·S1 is exactly 0 and Q, which is
--- S2 then, lies under 2⁻²¹⁵: a sum of two binary64 numbers is 0 or not very small.
+-- S2 then, lies under 2⁻⁹³⁰: a sum of two binary64 numbers is 0 or not very small.
 use mathlib.Core.Path.{_≡_, refl, sym, ap, _∙_, subst}
 use mathlib.Core.Logic.{_↔_, inl, inr}
 use mathlib.Core.Bool.{Bool, true, false, not, cond, _&&_}
@@ -26,7 +26,7 @@ use Rattle.equation.specs.Values.{sums, «V», K, Q, isobaricValue, soundSpeedV
 use Rattle.equation.specs.Calls.{workedDensity, stableOf, statePermit, stabilityPermit, isobaricOf, soundSpeedOf}
 use Rattle.search.proofs.Tests.{by}
 use Rattle.bounds.specs.NoAnswer.{StableState, rootArgument, VanishingQ}
-use Rattle.bounds.proofs.Fractions.{is-true, holds, order-of-test}
+use Rattle.bounds.proofs.Fractions.{is-true, holds, chain, order-of-test}
 use Rattle.bounds.proofs.Representable.{sum-fits, product-fits, sum-is, summands-finite}
 use Rattle.bounds.proofs.Rows.{s2-fits}
 use Rattle.bounds.proofs.Cancellation.{Large, Apart, zero-test, denominator, sum-apart, one-apart}
@@ -81,6 +81,10 @@ not-positive : T (le (neg (two⁻ 215)) (real 0))
 unfolding ofInt round neg le lt eq
 not-positive = tt
 
+smaller : T (le (two⁻ 930) (two⁻ 215))
+unfolding round le lt eq
+smaller = tt
+
 -- (1 + x) + s above 0 is 2⁻²¹⁵ at least, unless 1 + x is 0
 q-large : (x s : Float) → T (fits binary64 x) → T (fits binary64 s) → T (finite (real 1 ⊕ x ⊕ s)) → le (real 1 ⊕ x ⊕ s) (real 0) ≡ false → eq (real 1 ⊕ x) (real 0) ≡ false → T (le (two⁻ 215) (real 1 ⊕ x ⊕ s))
 q-large x s fx fs f above not-zero =
@@ -123,22 +127,23 @@ module _ (F : Fluid) (ok : T (passes F)) (t ρ : Float) where
   abbrev firstOfQ : Float
   firstOfQ = real 1 ⊕ real 2 ⊗ sums F t (workedDensity ρ) .s1
 
-  q-above : statePermit F t ρ ≡ Granted → stabilityPermit F t (workedDensity ρ) ≡ Granted → eq firstOfQ (real 0) ≡ false → T (le (two⁻ 215) (Q F t (workedDensity ρ)))
+  q-above : statePermit F t ρ ≡ Granted → stabilityPermit F t (workedDensity ρ) ≡ Granted → eq firstOfQ (real 0) ≡ false → T (le (two⁻ 930) (Q F t (workedDensity ρ)))
   unfolding stabilityPermit
   q-above g s n =
       let f = finite-where-granted F ok t ρ g in
       let above = stable-positive («V» F t (workedDensity ρ)) (K F t (workedDensity ρ)) (Q F t (workedDensity ρ)) (f .v) (f .k) (f .q) s in
       unfold Q in
-      q-large (real 2 ⊗ sums F t (workedDensity ρ) .s1) (sums F t (workedDensity ρ) .s2) (product-fits _ _) (unfold sums in s2-fits F (keptOf F t) _) (f .q) above n
+      chain (two⁻ 930) (two⁻ 215) (real 1 ⊕ real 2 ⊗ sums F t (workedDensity ρ) .s1 ⊕ sums F t (workedDensity ρ) .s2) smaller
+      (q-large (real 2 ⊗ sums F t (workedDensity ρ) .s1) (sums F t (workedDensity ρ) .s2) (product-fits _ _) (unfold sums in s2-fits F (keptOf F t) _) (f .q) above n)
 
-  -- 12 only where 1 + 2·S1 is 0 and Q, which is S2 then, is above 0 and under 2⁻²¹⁵
+  -- 12 only where 1 + 2·S1 is 0 and Q, which is S2 then, is above 0 and under 2⁻⁹³⁰
   pub isobaric-12 : isobaricOf F t ρ ≡ Refused WorkNotFinite → StableState F t ρ × VanishingQ F t ρ
   unfolding isobaricOf
   isobaric-12 r =
       let (g, s, n) = both-granted (statePermit F t ρ) (stabilityPermit F t (workedDensity ρ)) (isobaricValue F t (workedDensity ρ)) (state-denied F t ρ) stability-denied r in
-      let small : le (two⁻ 215) (Q F t (workedDensity ρ)) ≡ false =
-      by (le (two⁻ 215) (Q F t (workedDensity ρ)))
-      (λ large. absurd (subst T n (finite-where-granted F ok t ρ g .isobaric (holds (le (two⁻ 215) (Q F t (workedDensity ρ))) large))))
+      let small : le (two⁻ 930) (Q F t (workedDensity ρ)) ≡ false =
+      by (le (two⁻ 930) (Q F t (workedDensity ρ)))
+      (λ large. absurd (subst T n (finite-where-granted F ok t ρ g .isobaric (holds (le (two⁻ 930) (Q F t (workedDensity ρ))) large))))
       (λ small. small) in
       let zero-first : eq firstOfQ (real 0) ≡ true =
       by (eq firstOfQ (real 0)) (λ z. z) (λ z. absurd (subst T small (q-above g s z))) in

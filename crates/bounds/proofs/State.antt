@@ -92,9 +92,9 @@ module _ {Θ U : Interval} (F : Fluid) (t : Float) (a : In Θ t) (u : In U (F .T
   I2-in = c-in ⟨⊕⟩ total-in (part2Over Θ) (part2 t) (part2-in a) (F .pairs) (length (F .pairs))
 
 -- ---- a state
-finite-two⁻215 : T (finite (two⁻ 215))
+finite-two⁻930 : T (finite (two⁻ 930))
 unfolding round
-finite-two⁻215 = tt
+finite-two⁻930 = tt
 
 pub data State : Type 0 where
   state : (pressure energy enthalpy isochoric V' K' Q' isobaric helmholtz gibbs entropy : Interval) → State
@@ -113,7 +113,7 @@ finished F Θ Ρ (six S0 S1 S2 T1 T2 ST) J0 J1 J2 =
     V'
     K'
     Q'
-    (point (F .R) ⊠ (V' ⊞ K' ⊠ K' ÷ fromOn (two⁻ 215) Q'))
+    (point (F .R) ⊠ (V' ⊞ K' ⊠ K' ÷ fromOn (two⁻ 930) Q'))
     (RT ⊠ (J0 ⊞ S0))
     (RT ⊠ (point (real 1) ⊞ J0 ⊞ S0 ⊞ S1))
     (point (F .R) ⊠ (J1 ⊞ T1 ⊟ J0 ⊟ S0))
@@ -137,12 +137,12 @@ module _ (F : Fluid) (t r : Float) where
   unfolding pressureValue pressureAt sums δ
   pressure-is = simp kept-temperature
 
-  -- isobaric heat capacity where Q is not under 2⁻²¹⁵, and the three with ln δ where δ is not under 2⁻⁶⁰
+  -- isobaric heat capacity where Q is not under 2⁻⁹³⁰, and the three with ln δ where δ is not under 2⁻⁶⁰
   abbrev pub InState : State → Type 0
   InState (state p e h c v k q cp f g s) =
       In p (pressureValue F t r) × In e (energyValue F t r) × In h (enthalpyValue F t r) × In c (isochoricValue F t r)
       × In v («V» F t r) × In k (K F t r) × In q (Q F t r)
-      × (T (le (two⁻ 215) (Q F t r)) → In cp (isobaricValue F t r))
+      × (T (le (two⁻ 930) (Q F t r)) → In cp (isobaricValue F t r))
       × (T (le (two⁻ 60) (δ F t r)) → In f (helmholtzValue F t r) × In g (gibbsValue F t r) × In s (entropyValue F t r))
 
   module _ {Θ Ρ : Interval} (a : In Θ t) (b : In Ρ r) where
@@ -163,7 +163,7 @@ module _ (F : Fluid) (t r : Float) where
           v,
           k,
           q,
-          (λ h. at (F .R) ⟨⊗⟩ (v ⟨⊕⟩ k ⟨⊗⟩ k ⟨⊘⟩ from-on-in (two⁻ 215) _ finite-two⁻215 h q)),
+          (λ h. at (F .R) ⟨⊗⟩ (v ⟨⊕⟩ k ⟨⊗⟩ k ⟨⊘⟩ from-on-in (two⁻ 930) _ finite-two⁻930 h q)),
           λ h. (
             rt ⟨⊗⟩ (j0 h ⟨⊕⟩ s0),
             rt ⟨⊗⟩ (one ⟨⊕⟩ j0 h ⟨⊕⟩ s0 ⟨⊕⟩ s1),

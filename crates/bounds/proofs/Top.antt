@@ -10,8 +10,8 @@ use Rattle.arithmetic.specs.Checked.{real}
 use Rattle.arithmetic.proofs.Order.{lt-le-trans}
 use Rattle.fluids.specs.Fluid.{Fluid}
 use Rattle.equation.specs.Values.{δ, sums, pressureValue}
-use Rattle.bounds.proofs.Fractions.{is-true, Le, Le-total, test-of-order}
-use Rattle.bounds.proofs.Interval.{Interval, unknown, ends, In, anything, inside, interval, tested, point, at, _▶_, computed}
+use Rattle.bounds.proofs.Fractions.{is-true, test-of-order}
+use Rattle.bounds.proofs.Interval.{Interval, unknown, ends, In, anything, inside, interval, tested, either-side, point, at, _▶_, computed}
 use Rattle.bounds.proofs.Sum.{_⊞_, _⟨⊕⟩_}
 use Rattle.bounds.proofs.Product.{_⊠_, _⟨⊗⟩_}
 use Rattle.bounds.proofs.Quotient.{_÷_, _⟨⊘⟩_}
@@ -61,8 +61,4 @@ slice-rises F lo hi s t f l h =
 
 -- two slices that meet
 pub joined : (F : Fluid) (lo c hi : Float) → T (finite c) → Rises F lo c → Rises F c hi → Rises F lo hi
-joined F lo c hi q lower upper t f l h = go (le t c) (λ z. z) (λ n. test-of-order c t q f (Le-total t c (λ (g : Le t c). n (test-of-order t c f q g))))
-  where
-    go : (b : Bool) → (T b → T (le t c)) → ((T b → ⊥) → T (le c t)) → lt (F .greatestP) (pressureValue F t (F .greatestρ)) ≡ true
-    go true k n = lower t f l (k tt)
-    go false k n = upper t f (n (λ z. z)) h
+joined F lo c hi q lower upper t f l h = either-side t c f q (λ low. lower t f l low) (λ high. upper t f high h)

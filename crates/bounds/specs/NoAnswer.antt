@@ -59,9 +59,9 @@ module _ (F : Fluid) (t ρ : Float) where
   abbrev pub rootArgument : Float
   rootArgument = (F .R ⊗ t) ⊘ F .M ⊗ (Q F t (workedDensity ρ) ⊕ K F t (workedDensity ρ) ⊗ K F t (workedDensity ρ) ⊘ «V» F t (workedDensity ρ))
 
-  -- 1 + 2·S1 is 0, and Q, which is S2 then, lies under 2⁻²¹⁵
+  -- 1 + 2·S1 is 0, and Q, which is S2 then, lies under 2⁻⁹³⁰
   abbrev pub VanishingQ : Type 0
-  VanishingQ = (eq (real 1 ⊕ real 2 ⊗ sums F t (workedDensity ρ) .s1) (real 0) ≡ true) × (le (two⁻ 215) (Q F t (workedDensity ρ)) ≡ false)
+  VanishingQ = (eq (real 1 ⊕ real 2 ⊗ sums F t (workedDensity ρ) .s1) (real 0) ≡ true) × (le (two⁻ 930) (Q F t (workedDensity ρ)) ≡ false)
 
 -- the nine properties, whatever the two numbers are
 pub record PropertyCalls (F : Fluid) : Type 0 where
