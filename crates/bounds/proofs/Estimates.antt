@@ -174,7 +174,7 @@ module _ (F : Fluid) (fine : T (estimateEnds F)) (ok : T (estimatesKnown F)) (t 
 
   saturation-denied : saturationPermit F t ≡ Denied WorkNotFinite → ⊥
   unfolding saturationPermit
-  saturation-denied = never-denied ((finite t, InputNotFinite) ∷ (between (F .leastT) t (F .greatestT), TemperatureOutside) ∷ (le t (F .Tc), AboveCritical) ∷ []) tt
+  saturation-denied = never-denied WorkNotFinite ((finite t, InputNotFinite) ∷ (between (F .leastT) t (F .greatestT), TemperatureOutside) ∷ (le t (F .Tc), AboveCritical) ∷ []) tt
 
   pub granted-finite : saturationPermit F t ≡ Granted → T (finite (pressureEstimate F t)) × T (finite (liquidEstimate F t)) × T (finite (vapourEstimate F t))
   granted-finite g = let (low, high) = saturation-granted g in estimates-finite low high

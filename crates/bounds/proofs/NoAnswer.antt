@@ -9,7 +9,7 @@ use Rattle.bounds.proofs.NeverTwelve.{pressure-never-12, energy-never-1
 use Rattle.bounds.proofs.Potentials.{entropy-12, gibbs-12, helmholtz-12}
 use Rattle.bounds.proofs.Stable.{sound-speed-12, isobaric-12}
 use Rattle.bounds.proofs.Estimates.{saturation-pressure-never-12, saturated-liquid-never-12, saturated-vapour-never-12}
-use Rattle.bounds.proofs.Searches.{prepared-always, from-below-exactly, from-above-exactly, only-eight, plain-never-12, quick-never-12, plain-encloses, every-question-answered}
+use Rattle.bounds.proofs.Searches.{prepared-always, eight-from-below, eight-from-above, only-eight, plain-never-12, quick-never-12, plain-encloses, every-question-answered}
 
 pub elementary-calls : ElementaryCalls
 elementary-calls = record { exponential = exponential-12; logarithm = logarithm-12; square-root = square-root-12 }
@@ -40,8 +40,8 @@ search-calls = record {
   plain = λ t P c side. (plain-never-nine t P c side, plain-never-12 t P c side, plain-never-sixteen t P c side);
   quick = λ t P c side g l. (quick-call-never-nine t P c side g l, quick-never-12 t P c side g l);
   quick-prepared = λ t P c side g l ready. never-sixteen t c g l ready P side;
-  from-below = from-below-exactly;
-  from-above = from-above-exactly;
+  from-below = eight-from-below;
+  from-above = eight-from-above;
   only-8 = λ t P c side ok. only-eight t P c ok side;
   encloses = plain-encloses;
   answered = every-question-answered;

@@ -4,7 +4,7 @@ use mathlib.Core.Bool.{Bool, true, false, not, cond, _&&_}
 use mathlib.Core.List.{List, [], _∷_}
 use Prim.Native.Nat.{ℕ}
 use native.Mathlib.Omega.{arith}
-use lib.Dec.{T, eqb}
+use lib.Dec.{T, eqb, eqb-refl}
 use lib.Ieee.{Float, nan, inf, fin, le, lt, eq, ofInt, round}
 use lib.Ieee.Fits.{and-i, and-l, and-r}
 use lib.Ieee.Scale.{finite}
@@ -25,20 +25,26 @@ use Rattle.fluids.proofs.Sound.{every}
 use Rattle.equation.specs.Calls.{workedDensity, stateTests, statePermit, potentialPermit}
 use Rattle.bounds.proofs.Fractions.{holds, is-true}
 
--- ---- no permit of the inputs denies with 12
-abbrev otherThan12 : Bool × Refusal → Bool
-otherThan12 test = not (eqb (codeOf (test .1)) 12)
+-- ---- a permit denies with none but its tests' refusals
+abbrev otherThan : Refusal → Bool × Refusal → Bool
+otherThan e test = not (eqb (codeOf (test .1)) (codeOf e))
 
-not-12 : (r : Refusal) → T (not (eqb (codeOf r) 12)) → r ≡ WorkNotFinite → ⊥
-not-12 r t e = subst (λ (x : Refusal). T (not (eqb (codeOf x) 12))) e t
-
-pub never-denied : (tests : List (Bool × Refusal)) → T (every otherThan12 tests) → firstOf tests ≡ Denied WorkNotFinite → ⊥
-never-denied [] ok e = let z : _≡_ {A = ℕ} 0 1 = cc in omega arith
-never-denied (x ∷ xs) ok e = go (x .0) (never-denied xs (and-r (otherThan12 x) (every otherThan12 xs) ok)) e
+not-itself : (n : ℕ) → T (not (eqb n n)) → ⊥
+not-itself n t = go (eqb n n) (eqb-refl n) t
   where
-    go : (b : Bool) → (firstOf xs ≡ Denied WorkNotFinite → ⊥) → cond b (firstOf xs) (Denied (x .1)) ≡ Denied WorkNotFinite → ⊥
-    go true later e = later e
-    go false later e = not-12 (x .1) (and-l (otherThan12 x) (every otherThan12 xs) ok) (cc)
+    go : (b : Bool) → T b → T (not b) → ⊥
+    go true t u = u
+    go false t u = t
+
+pub never-denied : (e : Refusal) (tests : List (Bool × Refusal)) → T (every (otherThan e) tests) → firstOf tests ≡ Denied e → ⊥
+never-denied e [] ok d = let z : _≡_ {A = ℕ} 0 1 = cc in omega arith
+never-denied e (x ∷ xs) ok d = go (x .0) (never-denied e xs (and-r (otherThan e x) (every (otherThan e) xs) ok)) d
+  where
+    go : (b : Bool) → (firstOf xs ≡ Denied e → ⊥) → cond b (firstOf xs) (Denied (x .1)) ≡ Denied e → ⊥
+    go true later d = later d
+    go false later d =
+        let same : x .1 ≡ e = cc in
+        not-itself (codeOf e) (subst (λ (r : Refusal). T (not (eqb (codeOf r) (codeOf e)))) same (and-l (otherThan e x) (every (otherThan e) xs) ok))
 
 -- ---- so an answer is 12 only where the permit is granted and the value is not finite
 pub refused-granted : (p : Permit) (v : Float) → (p ≡ Denied WorkNotFinite → ⊥) → permitted p (outcomeOf v) ≡ Refused WorkNotFinite → (p ≡ Granted) × (finite v ≡ false)
@@ -58,11 +64,11 @@ never-12 p v n f e = let (g, b) = refused-granted p v n e in subst T b (f g)
 module _ (F : Fluid) (t ρ : Float) where
   pub state-denied : statePermit F t ρ ≡ Denied WorkNotFinite → ⊥
   unfolding statePermit
-  state-denied = never-denied (stateTests F t ρ) tt
+  state-denied = never-denied WorkNotFinite (stateTests F t ρ) tt
 
   pub potential-denied : potentialPermit F t ρ ≡ Denied WorkNotFinite → ⊥
   unfolding potentialPermit
-  potential-denied e = never-denied ((finite t && finite ρ, InputNotFinite) ∷ (between (F .leastT) t (F .greatestT), TemperatureOutside) ∷ (between (real 0) ρ (F .greatestρ), DensityOutside) ∷ (not (eq ρ (real 0)), AtZeroDensity) ∷ []) tt e
+  potential-denied e = never-denied WorkNotFinite ((finite t && finite ρ, InputNotFinite) ∷ (between (F .leastT) t (F .greatestT), TemperatureOutside) ∷ (between (real 0) ρ (F .greatestρ), DensityOutside) ∷ (not (eq ρ (real 0)), AtZeroDensity) ∷ []) tt e
 
   pub state-granted : statePermit F t ρ ≡ Granted → T (between (F .leastT) t (F .greatestT)) × T (between (real 0) ρ (F .greatestρ))
   unfolding statePermit

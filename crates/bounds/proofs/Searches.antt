@@ -112,7 +112,7 @@ module _ (t P : Float) (c : ℕ) (ok : searchInputsOf t P c true ≡ Granted) wh
   all-numbers = numbers t (search-passed t P c true ok .temperature-passed) c (search-passed t P c true ok .top-passed)
 
   -- it refuses exactly if no coarse cell j has p(j) ≤ P < p(j+1)
-  pub from-below-exactly : (plainOf t P c FromBelow ≡ Found.Refused NoCell) ↔ NoCellEncloses (atEnds (pressuresOf t)) P c
+  from-below-exactly : (plainOf t P c FromBelow ≡ Found.Refused NoCell) ↔ NoCellEncloses (atEnds (pressuresOf t)) P c
   from-below-exactly = refuses-exactly t P c ok all-numbers
 
 -- ---- a search at permitted inputs, by what its place is
@@ -123,15 +123,30 @@ state-found : (t : Float) (side : Side) (x : Place) → HasStep x → (density :
 unfolding foundStateOf
 state-found t side x (k, e) = (stepDensityOf k, stateWordOf t side, rw e)
 
-inputs-not-12 : (t P : Float) (c : ℕ) (room : Bool) → searchInputsOf t P c room ≡ Denied WorkNotFinite → ⊥
-unfolding searchInputsOf firstRefusalOf
-inputs-not-12 t P c room = never-denied
-    ((finite t && finite P, InputNotFinite)
+-- the inputs refuse with none but 2, 3, 5, 6 and 7
+abbrev searchTests : Float → Float → ℕ → Bool → List (Bool × Refusal)
+searchTests t P c room =
+    (finite t && finite P, InputNotFinite)
     ∷ (temperaturePermittedOf t, TemperatureOutside)
     ∷ (pressurePermittedOf P, PressureOutside)
     ∷ (topPermittedOf c, TopOutside)
     ∷ (room, TooShort)
-    ∷ []) tt
+    ∷ []
+
+inputs-not-12 : (t P : Float) (c : ℕ) (room : Bool) → searchInputsOf t P c room ≡ Denied WorkNotFinite → ⊥
+unfolding searchInputsOf firstRefusalOf
+inputs-not-12 t P c room = never-denied WorkNotFinite (searchTests t P c room) tt
+
+inputs-not-8 : (t P : Float) (c : ℕ) (room : Bool) → searchInputsOf t P c room ≡ Denied NoCell → ⊥
+unfolding searchInputsOf firstRefusalOf
+inputs-not-8 t P c room = never-denied NoCell (searchTests t P c room) tt
+
+-- so 8 comes from permitted inputs alone
+eight-permitted : (t P : Float) (c : ℕ) (side : Side) → plainOf t P c side ≡ Found.Refused NoCell → searchInputsOf t P c true ≡ Granted
+unfolding plainOf
+eight-permitted t P c side r =
+    searched-refuses (searchInputsOf t P c true) t side (plainStepOf side (pressuresOf t) P c) NoCell r
+    (λ i. absurd (inputs-not-8 t P c true i)) (λ ok x. ok)
 
 module _ (t P : Float) (c : ℕ) (ok : searchInputsOf t P c true ≡ Granted) where
   asked : Question (pressuresOf t) P c
@@ -155,7 +170,7 @@ module _ (t P : Float) (c : ℕ) (ok : searchInputsOf t P c true ≡ Granted) wh
   only-eight FromAbove e r = above-refuses (pressuresOf t) P c (asked .some-cell) (all-numbers t P c ok) starts-low e (place-refused FromAbove e r) .0
 
   -- from above exactly if the pressure at the top is not above P
-  pub from-above-exactly : (plainOf t P c FromAbove ≡ Found.Refused NoCell) ↔ (le (pressuresOf t (endStep c)) P ≡ true)
+  from-above-exactly : (plainOf t P c FromAbove ≡ Found.Refused NoCell) ↔ (le (pressuresOf t (endStep c)) P ≡ true)
   unfolding plainOf foundStateOf
   from-above-exactly =
       let (one, other) = above-refuses-exactly (pressuresOf t) P c (asked .some-cell) (all-numbers t P c ok) starts-low in (
@@ -226,3 +241,16 @@ every-question-answered t P side ok =
     let passed = search-passed t P 1664 true ok in
     let (low, high) = and-passed (le (r245ca .leastP) P) (le P (r245ca .greatestP)) (passed .pressure-passed) in
     density-found t P 1664 ok (le-lt-trans P (r245ca .greatestP) (pressuresOf t (endStep 1664)) high (top-pressure t (passed .temperature-passed))) side
+
+-- ---- 8, exactly
+pub eight-from-below : (t P : Float) (c : ℕ) → (plainOf t P c FromBelow ≡ Found.Refused NoCell) ↔ ((searchInputsOf t P c true ≡ Granted) × NoCellEncloses (atEnds (pressuresOf t)) P c)
+eight-from-below t P c = (
+  (λ r. let ok = eight-permitted t P c FromBelow r in (ok, from-below-exactly t P c ok .0 r)),
+  (λ (ok, none). from-below-exactly t P c ok .1 none),
+)
+
+pub eight-from-above : (t P : Float) (c : ℕ) → (plainOf t P c FromAbove ≡ Found.Refused NoCell) ↔ ((searchInputsOf t P c true ≡ Granted) × (le (pressuresOf t (endStep c)) P ≡ true))
+eight-from-above t P c = (
+  (λ r. let ok = eight-permitted t P c FromAbove r in (ok, from-above-exactly t P c ok .0 r)),
+  (λ (ok, top). from-above-exactly t P c ok .1 top),
+)

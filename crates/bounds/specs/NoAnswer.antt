@@ -94,10 +94,10 @@ pub record SearchCalls : Type 0 where
   -- a quick one never with 9 or 12, and over prepared lists never with 16
   pub quick : (t P : Float) (c : ℕ) (side : Side) (g l : List Float) → Never NotNeighbours (quickOf t P c side g l) × Never WorkNotFinite (quickOf t P c side g l)
   pub quick-prepared : (t P : Float) (c : ℕ) (side : Side) (g l : List Float) → prepareOf t c g l ≡ Ready → Never NotEnclosed (quickOf t P c side (greatestAfter t c g l) (leastAfter t c g l))
-  -- at a permitted T, P and c: 8 from below exactly if no coarse cell j has p(j) ≤ P < p(j+1), from above exactly if p(c) ≤ P
-  pub from-below : (t P : Float) (c : ℕ) → searchInputsOf t P c true ≡ Granted → (plainOf t P c FromBelow ≡ Found.Refused NoCell) ↔ NoCellEncloses (atEnds (pressuresOf t)) P c
-  pub from-above : (t P : Float) (c : ℕ) → searchInputsOf t P c true ≡ Granted → (plainOf t P c FromAbove ≡ Found.Refused NoCell) ↔ (le (pressuresOf t (endStep c)) P ≡ true)
-  -- and no other refusal
+  -- 8 comes exactly if T, P and c are permitted and, from below, no coarse cell j has p(j) ≤ P < p(j+1), from above, p(c) ≤ P
+  pub from-below : (t P : Float) (c : ℕ) → (plainOf t P c FromBelow ≡ Found.Refused NoCell) ↔ ((searchInputsOf t P c true ≡ Granted) × NoCellEncloses (atEnds (pressuresOf t)) P c)
+  pub from-above : (t P : Float) (c : ℕ) → (plainOf t P c FromAbove ≡ Found.Refused NoCell) ↔ ((searchInputsOf t P c true ≡ Granted) × (le (pressuresOf t (endStep c)) P ≡ true))
+  -- and permitted inputs meet no other refusal
   pub only-8 : (t P : Float) (c : ℕ) (side : Side) → searchInputsOf t P c true ≡ Granted → (e : Refusal) → plainOf t P c side ≡ Found.Refused e → e ≡ NoCell
   -- an answered density encloses P
   pub encloses : (t P : Float) (c : ℕ) (side : Side) (density : Float) (word : Word) → plainOf t P c side ≡ State density word → Answers t P c side density word
