@@ -1,4 +1,5 @@
 pub mod Digits
+pub mod HandedOut
 pub mod Lengths
 pub mod Placing
 pub mod Printed

@@ -1,0 +1,80 @@
+-- A number that answers a record is finite: never a NaN or an infinity beside the code 0.
+use mathlib.Core.Path.{_≡_, refl}
+use mathlib.Core.Bool.{Bool, true}
+use mathlib.Core.List.{List}
+use Prim.Native.Nat.{ℕ}
+use lib.Dec.{T}
+use lib.Ieee.{Float, nan, inf, fin}
+use lib.Ieee.Exact.{HasValue}
+use lib.Ieee.Scale.{finite}
+use Rattle.refusals.specs.declared.Permit.{Permit}
+use Rattle.refusals.specs.declared.Permit.the-variants.{Granted, Denied}
+use Rattle.refusals.specs.declared.Answer.{Answer}
+use Rattle.refusals.specs.Order.{permitted}
+use Rattle.arithmetic.specs.Calls.{outcomeOf}
+use Rattle.arithmetic.proofs.Answered.{HandsOutFinite, outcome-hands-out-finite}
+use Rattle.fluids.specs.R245ca.{r245ca}
+use Rattle.equation.specs.Kept.{keptOf}
+use Rattle.equation.specs.Values.{pressureValue}
+use Rattle.equation.specs.Calls.{workedDensity, statePermit, pressureOf}
+use Rattle.search.specs.declared.Place.{Place}
+use Rattle.search.specs.declared.Place.the-variants.{At, Refused}
+use Rattle.search.specs.Plain.{atEnds}
+use Rattle.density.specs.declared.Side.{Side}
+use Rattle.density.specs.Steps.{stepDensityOf}
+use Rattle.density.specs.Inputs.{searchInputsOf}
+use Rattle.density.specs.State.{foundStateOf}
+use Rattle.density.specs.Granted.{StepInside}
+use Rattle.density.specs.Calls.{pressuresOf, plainCellOf, plainStepOf, searched, plainOf}
+use Rattle.density.proofs.Permitted.{question, plain-cell-crosses, step-inside}
+use Rattle.density.proofs.StepExact.{step-exact}
+use Rattle.records.specs.declared.Reading.{Reading}
+use Rattle.records.specs.declared.Reading.the-variants.{State, Search}
+use Rattle.records.specs.Record.{readingOf, foundAnswer, densityOf, workOf, answerOf}
+use Rattle.records.specs.Call.{permitOf, callOf}
+
+permitted-finite : (p : Permit) (a : Answer) → HandsOutFinite a → HandsOutFinite (permitted p a)
+permitted-finite Granted a h = h
+permitted-finite (Denied r) a h = tt
+
+pressure-finite : (T ρ : Float) → HandsOutFinite (pressureOf r245ca T ρ)
+unfolding pressureOf
+pressure-finite T ρ =
+    let v = pressureValue r245ca T (workedDensity ρ) in
+    permitted-finite (statePermit r245ca T ρ) (outcomeOf v) (outcome-hands-out-finite v)
+
+value-finite : (x : Float) (s : Bool) (n d : ℕ) → HasValue x s n d → T (finite x)
+value-finite nan s n d h = absurd h
+value-finite (inf t) s n d h = absurd h
+value-finite (fin t m e) s n d h = tt
+
+place-finite : (T : Float) (side : Side) (x : Place) → StepInside x → HandsOutFinite (foundAnswer (foundStateOf T side x))
+unfolding foundStateOf
+place-finite T side (At k) h = value-finite (stepDensityOf k) _ _ _ (step-exact k h)
+place-finite T side (Refused r) h = tt
+
+density-finite : (T P : Float) (side : Side) → HandsOutFinite (densityOf T P side)
+unfolding densityOf plainOf
+density-finite T P side = go (searchInputsOf T P 1664 true) refl
+  where
+    go : (i : Permit) → searchInputsOf T P 1664 true ≡ i →
+        HandsOutFinite (foundAnswer (searched i (foundStateOf T side (plainStepOf side (pressuresOf T) P 1664))))
+    go (Denied r) e = tt
+    go Granted e =
+        let asked = question T P 1664 true e (keptOf r245ca T) in
+        let p = pressuresOf T in
+        place-finite T side (plainStepOf side p P 1664)
+        (step-inside p P (plainCellOf side (atEnds p) P 1664) (plain-cell-crosses p P 1664 side asked))
+
+work-finite : (asked : Reading) → HandsOutFinite (workOf asked)
+work-finite (State T ρ) = pressure-finite T ρ
+work-finite (Search T P side) = density-finite T P side
+work-finite (Reading.Refused r) = tt
+
+pub answer-finite : (s : List ℕ) → HandsOutFinite (answerOf s)
+unfolding answerOf
+answer-finite s = work-finite (readingOf s)
+
+pub call-finite : (s : List ℕ) (room : ℕ) → HandsOutFinite (callOf s room)
+unfolding callOf
+call-finite s room = permitted-finite (permitOf (readingOf s) room) (workOf (readingOf s)) (work-finite (readingOf s))
