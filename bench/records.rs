@@ -46,7 +46,11 @@ fn cell_from_above(t: f64, kept: &Kept, p: f64) -> Result<u64, u32> {
 
 fn search(t: f64, p: f64, above: bool) -> Result<f64, u32> {
     let kept = keep(t);
-    let cell = if above { cell_from_above(t, &kept, p)? } else { cell_from_below(t, &kept, p)? };
+    let cell = if above {
+        cell_from_above(t, &kept, p)?
+    } else {
+        cell_from_below(t, &kept, p)?
+    };
     let mut lower = cell << HALVINGS;
     let mut upper = lower + (1 << HALVINGS);
     for _ in 0..HALVINGS {
@@ -108,7 +112,8 @@ pub unsafe extern "C" fn rust_answer(
 ) -> u32 {
     match answered(core::slice::from_raw_parts(record, record_len), out_len) {
         Ok(number) => {
-            core::slice::from_raw_parts_mut(out, out_len)[..8].copy_from_slice(&number.to_le_bytes());
+            core::slice::from_raw_parts_mut(out, out_len)[..8]
+                .copy_from_slice(&number.to_le_bytes());
             0
         }
         Err(code) => code,
