@@ -32,7 +32,7 @@ extern "C" {
 
 /*
  * What verriblom_answer returns. Where several refusals apply the first of 15, 14, 1, 2, 3, 4, 5, 7
- * counts, then as the work meets 8, 9, 12.
+ * counts. A search could end with 8, 9 or 12 as well; it is proved that no record meets these.
  */
 enum verriblom_code {
     /* the first eight bytes of the output hold the number */

@@ -30,7 +30,8 @@ use Rattle.records.specs.declared.Mark.{Mark}
 use Rattle.records.specs.declared.Mark.the-variants.{TD, TB, TA, TP, TN, Unknown}
 use Rattle.records.specs.declared.Reading.{Reading}
 use Rattle.records.specs.declared.Reading.the-variants.{State, Search}
-use Rattle.records.specs.Record.{foundAnswer, densityOf, workOf, askedBy, markOf, readingOf}
+use Rattle.density.specs.Codes.{foundAnswerOf}
+use Rattle.records.specs.Record.{densityOf, workOf, askedBy, markOf, readingOf}
 use Rattle.records.specs.Call.{numbersPermit, inputsOf, withRoom, permitOf, callOf, callCode}
 use Rattle.bounds.specs.NoAnswer.{OneOf}
 use Rattle.bounds.specs.Records.{RecordCalls}
@@ -58,7 +59,7 @@ unfolding Answered
 work-answered (State t ρ) ok = (_, pressure-answered r245ca r245ca-passes t ρ (state-permitted t ρ ok))
 work-answered (Search t P side) ok =
     let (density, word, e) = every-question-answered t P side (search-permitted t P side ok) in
-    (density, unfold densityOf in ap foundAnswer e)
+    (density, unfold densityOf in ap foundAnswerOf e)
 work-answered (Reading.Refused r) ok = let z : _≡_ {A = ℕ} 0 1 = cc in absurd (omega arith)
 
 -- ---- the refusals that a record's permit can deny with

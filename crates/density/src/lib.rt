@@ -10,6 +10,7 @@ mod places;
 mod state;
 mod steps;
 
+pub use calls::found_answer;
 pub use calls::found_code;
 pub use calls::plain;
 pub use calls::prepare;

@@ -10,6 +10,8 @@ use Rattle.density.proofs.prepare.Kinds as prepare-kinds
 use Rattle.density.proofs.prepare.Reads as prepare-reads
 use Rattle.density.proofs.quick.Kinds as quick-kinds
 use Rattle.density.proofs.quick.Reads as quick-reads
+use Rattle.density.proofs.found_answer.Kinds as found-answer-kinds
+use Rattle.density.proofs.found_answer.Reads as found-answer-reads
 use Rattle.density.proofs.found_code.Kinds as found-code-kinds
 use Rattle.density.proofs.found_code.Reads as found-code-reads
 use Rattle.density.proofs.prepared_code.Kinds as prepared-code-kinds
@@ -20,6 +22,9 @@ plain-one κs a x y e f p q = p ∙ sym q
 
 pub quick-one : OneResult _ quick-kinds.ps quick-kinds.r quick-reads.Learnt
 quick-one κs a x y e f p q = p ∙ sym q
+
+pub found-answer-one : OneResult _ found-answer-kinds.ps found-answer-kinds.r found-answer-reads.Learnt
+found-answer-one κs a x y e f p q = p ∙ sym q
 
 pub found-code-one : OneResult _ found-code-kinds.ps found-code-kinds.r found-code-reads.Learnt
 found-code-one κs a x y e f p q = p ∙ sym q

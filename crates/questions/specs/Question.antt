@@ -8,7 +8,7 @@ use lib.ListN.{replicate}
 use lib.Ieee.{Float, binary64, ofBits}
 use Rattle.refusals.specs.declared.Refusal.the-variants.{UnknownMark}
 use Rattle.refusals.specs.declared.Answer.{Answer}
-use Rattle.refusals.specs.declared.Answer.the-variants.{Number, Refused}
+use Rattle.refusals.specs.declared.Answer.the-variants.{Refused}
 use Rattle.arithmetic.specs.Checked.{real}
 use Rattle.arithmetic.specs.Calls.{exponentialOf, logarithmOf, squareRootOf}
 use Rattle.fluids.specs.R245ca.{r245ca}
@@ -16,18 +16,12 @@ use Rattle.equation.specs.Calls.{pressureOf, energyOf, enthalpyOf, isochoricOf,
 use Rattle.saturation.specs.Calls.{saturationPressureOf, saturatedLiquidOf, saturatedVapourOf}
 use Rattle.density.specs.declared.Side.{Side}
 use Rattle.density.specs.declared.Side.the-variants.{FromBelow, FromAbove}
-use Rattle.density.specs.declared.Found.{Found}
-use Rattle.density.specs.declared.Found.the-variants.{State}
+use Rattle.density.specs.Codes.{foundAnswerOf}
 use Rattle.density.specs.Calls.{plainOf, greatestAfter, leastAfter, quickOf}
-
--- a search's density alone
-abbrev pub foundAnswer : Found → Answer
-foundAnswer (State ρ word) = Number ρ
-foundAnswer (Found.Refused r) = Refused r
 
 -- the plain search over 1,664 cells
 unfoldable pub plainAnswer : Side → Float → Float → Answer
-plainAnswer side T P = foundAnswer (plainOf T P 1664 side)
+plainAnswer side T P = foundAnswerOf (plainOf T P 1664 side)
 
 -- the lists that a preparation of 1,664 cells at T leaves of two lists of 1,665 zeros
 unfoldable pub zeros : List Float
@@ -41,7 +35,7 @@ leastAt T = leastAfter T 1664 zeros zeros
 
 -- the quick search over them
 unfoldable pub quickAnswer : Side → Float → Float → Answer
-quickAnswer side T P = foundAnswer (quickOf T P 1664 side (greatestAt T) (leastAt T))
+quickAnswer side T P = foundAnswerOf (quickOf T P 1664 side (greatestAt T) (leastAt T))
 
 -- the calls by number, at the numbers x and y; a call of one number does not look at y
 abbrev pub searchCalls : Float → Float → List (ℕ × Answer)

@@ -1,6 +1,6 @@
 // The searches as answers: the density alone.
-use density::Found;
 use density::Side;
+use density::found_answer;
 use density::plain;
 use density::prepare;
 use density::quick;
@@ -9,18 +9,8 @@ use words::number;
 ghost use mathlib.Core.Path.{_≡_};
 ghost use lib.Ieee.{binary64, ofBits};
 ghost use lib.ListN.{length};
-ghost use Rattle.questions.specs.Question.{foundAnswer, plainAnswer, quickAnswer};
+ghost use Rattle.questions.specs.Question.{plainAnswer, quickAnswer};
 ghost use Rattle.questions.specs.Serving.{Serves, ServesCall, overLists};
-
-// The density of a state, or the refusal.
-fn found_answer(found: Found) -> Answer
-    ensures { λ r. ⌜ r ≡ foundAnswer found ⌝ }
-{
-    match found {
-        Found::State(rho, _) => Answer::Number(rho),
-        Found::Refused(r) => Answer::Refused(r),
-    }
-}
 
 pub(crate) fn plain_answer(t: f64, p: f64, side: Side) -> Answer
     ensures { λ r. ⌜ r ≡ plainAnswer side t p ⌝ }

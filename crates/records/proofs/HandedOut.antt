@@ -30,7 +30,8 @@ use Rattle.density.proofs.Permitted.{question, plain-cell-crosses, step-inside}
 use Rattle.density.proofs.StepExact.{step-exact}
 use Rattle.records.specs.declared.Reading.{Reading}
 use Rattle.records.specs.declared.Reading.the-variants.{State, Search}
-use Rattle.records.specs.Record.{readingOf, foundAnswer, densityOf, workOf, answerOf}
+use Rattle.density.specs.Codes.{foundAnswerOf}
+use Rattle.records.specs.Record.{readingOf, densityOf, workOf, answerOf}
 use Rattle.records.specs.Call.{permitOf, callOf}
 
 permitted-finite : (p : Permit) (a : Answer) → HandsOutFinite a → HandsOutFinite (permitted p a)
@@ -48,7 +49,7 @@ value-finite nan s n d h = absurd h
 value-finite (inf t) s n d h = absurd h
 value-finite (fin t m e) s n d h = tt
 
-place-finite : (T : Float) (side : Side) (x : Place) → StepInside x → HandsOutFinite (foundAnswer (foundStateOf T side x))
+place-finite : (T : Float) (side : Side) (x : Place) → StepInside x → HandsOutFinite (foundAnswerOf (foundStateOf T side x))
 unfolding foundStateOf
 place-finite T side (At k) h = value-finite (stepDensityOf k) _ _ _ (step-exact k h)
 place-finite T side (Refused r) h = tt
@@ -58,7 +59,7 @@ unfolding densityOf plainOf
 density-finite T P side = go (searchInputsOf T P 1664 true) refl
   where
     go : (i : Permit) → searchInputsOf T P 1664 true ≡ i →
-        HandsOutFinite (foundAnswer (searched i (foundStateOf T side (plainStepOf side (pressuresOf T) P 1664))))
+        HandsOutFinite (foundAnswerOf (searched i (foundStateOf T side (plainStepOf side (pressuresOf T) P 1664))))
     go (Denied r) e = tt
     go Granted e =
         let asked = question T P 1664 true e (keptOf r245ca T) in

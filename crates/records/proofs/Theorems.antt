@@ -28,7 +28,8 @@ use Rattle.density.specs.State.{foundStateOf}
 use Rattle.density.specs.Calls.{pressuresOf, plainStepOf, searched, plainOf}
 use Rattle.records.specs.declared.Reading.{Reading}
 use Rattle.records.specs.declared.Reading.the-variants.{State, Search}
-use Rattle.records.specs.Record.{readingOf, foundAnswer, densityOf, workOf, answerOf}
+use Rattle.density.specs.Codes.{foundAnswerOf}
+use Rattle.records.specs.Record.{readingOf, densityOf, workOf, answerOf}
 use Rattle.records.specs.Call.{numbersPermit, inputsOf, withRoom, permitOf, callOf, outputOf, callCode, callOutput}
 
 -- ---- the tests before the work are the work's own
@@ -37,7 +38,7 @@ twice : (p : Permit) (a : Answer) → permitted p (permitted p a) ≡ permitted 
 twice Granted a = refl
 twice (Denied r) a = refl
 
-found-permitted : (p : Permit) (found : Found) → foundAnswer (searched p found) ≡ permitted p (foundAnswer found)
+found-permitted : (p : Permit) (found : Found) → foundAnswerOf (searched p found) ≡ permitted p (foundAnswerOf found)
 found-permitted Granted found = refl
 found-permitted (Denied r) found = refl
 
@@ -61,17 +62,17 @@ state-work T ρ =
 
 density-is : (T P : Float) (side : Side) →
     densityOf T P side
-    ≡ permitted (inputsOf (Search T P side)) (foundAnswer (foundStateOf T side (plainStepOf side (pressuresOf T) P 1664)))
+    ≡ permitted (inputsOf (Search T P side)) (foundAnswerOf (foundStateOf T side (plainStepOf side (pressuresOf T) P 1664)))
 unfolding densityOf plainOf
 density-is T P side =
     let found = foundStateOf T side (plainStepOf side (pressuresOf T) P 1664) in
     found-permitted (searchInputsOf T P 1664 true) found
-    ∙ ap (λ (p : Permit). permitted p (foundAnswer found)) (search-inputs T P side)
+    ∙ ap (λ (p : Permit). permitted p (foundAnswerOf found)) (search-inputs T P side)
 
 search-work : (T P : Float) (side : Side) → permitted (inputsOf (Search T P side)) (densityOf T P side) ≡ densityOf T P side
 search-work T P side =
     let p = inputsOf (Search T P side) in
-    let work = foundAnswer (foundStateOf T side (plainStepOf side (pressuresOf T) P 1664)) in
+    let work = foundAnswerOf (foundStateOf T side (plainStepOf side (pressuresOf T) P 1664)) in
     ap (permitted p) (density-is T P side) ∙ twice p work ∙ sym (density-is T P side)
 
 work-permitted : (asked : Reading) → permitted (inputsOf asked) (workOf asked) ≡ workOf asked

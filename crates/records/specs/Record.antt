@@ -8,14 +8,13 @@ use lib.Ieee.{Float, binary64, ofBits}
 use lib.ListN.{length, drop}
 use Rattle.refusals.specs.declared.Refusal.the-variants.{NoReading, UnknownMark, CutShort}
 use Rattle.refusals.specs.declared.Answer.{Answer}
-use Rattle.refusals.specs.declared.Answer.the-variants.{Number}
 use Rattle.words.specs.Word.{byteAt, wordOf}
 use Rattle.fluids.specs.R245ca.{r245ca}
 use Rattle.equation.specs.Calls.{pressureOf}
 use Rattle.density.specs.declared.Side.{Side}
 use Rattle.density.specs.declared.Side.the-variants.{FromBelow, FromAbove}
-use Rattle.density.specs.declared.Found.{Found}
 use Rattle.density.specs.Calls.{plainOf}
+use Rattle.density.specs.Codes.{foundAnswerOf}
 use Rattle.records.specs.declared.Mark.{Mark}
 use Rattle.records.specs.declared.Mark.the-variants.{TD, TB, TA, TP, TN, Unknown}
 use Rattle.records.specs.declared.Reading.{Reading}
@@ -55,14 +54,9 @@ readingOf s = cond (eqb (length s) 18) (askedBy (markOf s) s) (Reading.Refused C
 
 -- ---- the answer
 
--- the density of what a search found, or its refusal
-abbrev pub foundAnswer : Found → Answer
-foundAnswer (Found.State ρ word) = Number ρ
-foundAnswer (Found.Refused r) = Answer.Refused r
-
 -- searches here use c = 1,664
 unfoldable pub densityOf : Float → Float → Side → Answer
-densityOf T P side = foundAnswer (plainOf T P 1664 side)
+densityOf T P side = foundAnswerOf (plainOf T P 1664 side)
 
 abbrev pub workOf : Reading → Answer
 workOf (State T ρ) = pressureOf r245ca T ρ

@@ -1,24 +1,14 @@
 // A record's answer: the pressure at a density, or the density at a pressure, over 1,664 cells.
 use crate::Reading;
 use crate::reader::read;
-use density::Found;
 use density::Side;
+use density::found_answer;
 use density::plain;
 use equation::pressure;
 use refusals::Answer;
 use refusals::Refusal;
 ghost use mathlib.Core.Path.{_≡_};
-ghost use Rattle.records.specs.Record.{foundAnswer, densityOf, workOf, answerOf};
-
-// The density of what was found, or the refusal.
-fn found_answer(found: Found) -> Answer
-    ensures { λ r. ⌜ r ≡ foundAnswer found ⌝ }
-{
-    match found {
-        Found::State(rho, _) => Answer::Number(rho),
-        Found::Refused(r) => Answer::Refused(r),
-    }
-}
+ghost use Rattle.records.specs.Record.{densityOf, workOf, answerOf};
 
 fn searched(t: f64, p: f64, side: Side) -> Answer
     ensures { λ r. ⌜ r ≡ densityOf t p side ⌝ }

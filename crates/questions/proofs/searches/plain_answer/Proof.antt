@@ -1,13 +1,14 @@
 -- `plain_answer` meets its contract: what the plain search found, as an answer. Assumes nothing.
 use mathlib.Core.Path.{_∙_, ap}
-use Rattle.questions.specs.Question.{foundAnswer, plainAnswer}
+use Rattle.questions.specs.Question.{plainAnswer}
+use Rattle.density.specs.Codes.{foundAnswerOf}
 use borrow.Author.Needs.{needs}
 use Rattle.questions.proofs.searches.plain_answer.Statement.{statement}
 use Rattle.questions.proofs.searches.plain_answer.Tie as tie
 use Rattle.questions.proofs.searches.plain_answer.Reads as reads
 use Rattle.questions.proofs.searches.plain_answer.Lts as lts
 use Rattle.density.proofs.plain.Reads as plain-reads
-use Rattle.questions.proofs.searches.found_answer.Reads as found-answer-reads
+use Rattle.density.proofs.found_answer.Reads as found-answer-reads
 
 plain-requires : tie.Need-plain-requires
 plain-requires c κs = search needs
@@ -17,7 +18,7 @@ found-answer-requires c κs = search needs
 
 returns : tie.Need-returns
 unfolding plainAnswer
-returns c = c .found-answer .ensures ∙ ap foundAnswer (c .before .plain .ensures)
+returns c = c .found-answer .ensures ∙ ap foundAnswerOf (c .before .plain .ensures)
 
 pub plain-answer-spec : {M : Type 1} → statement M
 plain-answer-spec = tie.close (tie.spec plain-requires found-answer-requires returns)

@@ -1,6 +1,7 @@
 -- `quick_answer` meets its contract: over lists that serve t the quick search ends as over the prepared ones. Assumes nothing.
 use mathlib.Core.Path.{_∙_, ap}
-use Rattle.questions.specs.Question.{foundAnswer, quickAnswer}
+use Rattle.questions.specs.Question.{quickAnswer}
+use Rattle.density.specs.Codes.{foundAnswerOf}
 use borrow.Author.Needs.{needs}
 use Rattle.questions.proofs.searches.quick_answer.Statement.{statement}
 use Rattle.questions.proofs.searches.quick_answer.Tie as tie
@@ -15,7 +16,7 @@ returns : tie.Need-returns
 unfolding quickAnswer
 returns c =
     let start = c .before .before .before .before in
-    c .found-answer .ensures ∙ ap foundAnswer (c .before .quick .ensures ∙ start .pre .alike _ _)
+    c .found-answer .ensures ∙ ap foundAnswerOf (c .before .quick .ensures ∙ start .pre .alike _ _)
 
 pub quick-answer-spec : {M : Type 1} → statement M
 quick-answer-spec = tie.close (tie.spec quick-requires found-answer-requires returns)
