@@ -1,9 +1,8 @@
-/* The C call in C, in the package's form: a record read, its inputs tested, the pressure worked or the density searched. */
+/* The C call in C, in the package's form: a record read, its inputs tested, the pressure worked or the density searched
+ * (searches.h). */
 #include "same_form.c"
 
 uint32_t NAMED(answer)(const uint8_t *record, size_t record_len, uint8_t *out, size_t out_len);
-
-enum { TOP = 1664, HALVINGS = 23 };
 
 static double number_at(const uint8_t *bytes) {
     uint64_t bits = 0;
@@ -22,56 +21,10 @@ static uint32_t put_number(uint8_t *out, double number) {
     return 0;
 }
 
-static double step_density(uint64_t step) {
-    return (double)step * 0x1p-30;
-}
-
-static double step_pressure(const struct kept *kept, uint64_t step) {
-    double rho = step_density(step);
-    return pressure_of(kept->T, rho, sums_at(kept, rho / rhoc).s1);
-}
-
-/* The cell, or the refusal below 0. */
-static int cell_from_below(const struct kept *kept, double P) {
-    for (int j = 1; j <= TOP; j++) {
-        double p = step_pressure(kept, (uint64_t)j << HALVINGS);
-        if (p > P)
-            return j - 1;
-        if (isnan(p))
-            return -12;
-    }
-    return -8;
-}
-
-static int cell_from_above(const struct kept *kept, double P) {
-    for (int j = TOP; j >= 0; j--) {
-        double p = step_pressure(kept, (uint64_t)j << HALVINGS);
-        if (isnan(p))
-            return -12;
-        if (p <= P)
-            return j == TOP ? -8 : j;
-    }
-    return -8;
-}
-
+/* The search's own refusals, 8 and 12, are met by no record. */
 static uint32_t search(double T, double P, int above, uint8_t *out) {
-    struct kept kept;
-    keep(&kept, T);
-    int cell = above ? cell_from_above(&kept, P) : cell_from_below(&kept, P);
-    if (cell < 0)
-        return (uint32_t)-cell;
-    uint64_t lower = (uint64_t)cell << HALVINGS, upper = lower + ((uint64_t)1 << HALVINGS);
-    for (int k = 0; k < HALVINGS; k++) {
-        uint64_t middle = (lower + upper) / 2;
-        double p = step_pressure(&kept, middle);
-        if (isnan(p))
-            return 12;
-        if (p <= P)
-            lower = middle;
-        else
-            upper = middle;
-    }
-    return put_number(out, step_density(lower));
+    double rho = above ? NAMED(plain_above)(T, P) : NAMED(plain_below)(T, P);
+    return isnan(rho) ? 8 : put_number(out, rho);
 }
 
 static uint32_t input_code(double T, double x, double least, double greatest, uint32_t outside) {

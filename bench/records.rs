@@ -1,19 +1,7 @@
 //! The C call in Rust, in the package's form: a record read, its inputs tested, the pressure worked or the density
 //! searched.
-use super::{keep, pressure_of, state_at, sums_at, Kept, CRITICAL_RHO};
-
-const TOP: u64 = 1664;
-const HALVINGS: u32 = 23;
-
-fn step_density(step: u64) -> f64 {
-    step as f64 / 1073741824.0
-}
-
-/// The pressure at a step, or 12.
-fn step_pressure(t: f64, kept: &Kept, step: u64) -> Result<f64, u32> {
-    let rho = step_density(step);
-    finite(pressure_of(t, rho, sums_at(kept, rho / CRITICAL_RHO).s1))
-}
+use super::{pressure_of, state_at};
+use crate::searches::{rust_plain_above, rust_plain_below};
 
 fn finite(x: f64) -> Result<f64, u32> {
     if x.is_nan() {
@@ -23,45 +11,10 @@ fn finite(x: f64) -> Result<f64, u32> {
     }
 }
 
-fn cell_from_below(t: f64, kept: &Kept, p: f64) -> Result<u64, u32> {
-    for j in 1..=TOP {
-        if step_pressure(t, kept, j << HALVINGS)? > p {
-            return Ok(j - 1);
-        }
-    }
-    Err(8)
-}
-
-fn cell_from_above(t: f64, kept: &Kept, p: f64) -> Result<u64, u32> {
-    if step_pressure(t, kept, TOP << HALVINGS)? <= p {
-        return Err(8);
-    }
-    for j in (0..TOP).rev() {
-        if step_pressure(t, kept, j << HALVINGS)? <= p {
-            return Ok(j);
-        }
-    }
-    Err(8)
-}
-
+/// The search's own refusals, 8 and 12, are met by no record.
 fn search(t: f64, p: f64, above: bool) -> Result<f64, u32> {
-    let kept = keep(t);
-    let cell = if above {
-        cell_from_above(t, &kept, p)?
-    } else {
-        cell_from_below(t, &kept, p)?
-    };
-    let mut lower = cell << HALVINGS;
-    let mut upper = lower + (1 << HALVINGS);
-    for _ in 0..HALVINGS {
-        let middle = (lower + upper) / 2;
-        if step_pressure(t, &kept, middle)? <= p {
-            lower = middle;
-        } else {
-            upper = middle;
-        }
-    }
-    Ok(step_density(lower))
+    let rho = if above { rust_plain_above(t, p) } else { rust_plain_below(t, p) };
+    finite(rho).map_err(|_| 8)
 }
 
 fn pressure(t: f64, rho: f64) -> Result<f64, u32> {
