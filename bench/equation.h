@@ -17,7 +17,7 @@ struct state {
 
 /* A NaN is between nothing. */
 static inline int permitted(double T, double rho) {
-    return least_T <= T && T <= greatest_T && 0.0 <= rho && rho <= greatest_rho;
+    return least_T <= T && T <= greatest_T && least_rho <= rho && rho <= greatest_rho;
 }
 
 /* A density of minus zero is worked as +0. */

@@ -4,6 +4,7 @@
 mod records;
 
 use crate::r245ca::{Power, Row, A1, A2, C0, CRITICAL_RHO, CRITICAL_T, M, PAIRS, R, ROWS};
+use crate::r245ca::{GREATEST_RHO, GREATEST_T, LEAST_RHO, LEAST_T};
 use crate::{finite_or_nan, seven_exps, rust_exp as exp, rust_ln as ln, rust_root as root};
 
 #[derive(Clone, Copy, Default)]
@@ -195,7 +196,7 @@ fn stability_of(s: &State) -> Option<(f64, f64, f64)> {
 
 /// The state where T and the density are in range; a density of minus zero is worked as +0.
 fn permitted(t: f64, rho: f64) -> Option<State> {
-    let inside = (196.0..=450.0).contains(&t) && (0.0..=13.0).contains(&rho);
+    let inside = (LEAST_T..=GREATEST_T).contains(&t) && (LEAST_RHO..=GREATEST_RHO).contains(&rho);
     inside.then(|| state_at(t, if rho == 0.0 { 0.0 } else { rho }))
 }
 

@@ -23,7 +23,7 @@ static uint32_t put_number(uint8_t *out, double number) {
 
 /* The search's own refusals, 8 and 12, are met by no record. */
 static uint32_t search(double T, double P, int above, uint8_t *out) {
-    double rho = above ? NAMED(plain_above)(T, P) : NAMED(plain_below)(T, P);
+    double rho = NAMED(plain)(T, P, TOP, (uint32_t)above);
     return isnan(rho) ? 8 : put_number(out, rho);
 }
 
@@ -52,7 +52,7 @@ uint32_t NAMED(answer)(const uint8_t *record, size_t record_len, uint8_t *out, s
     if (mark == 'N')
         return 1;
     double T = number_at(record + 2), x = number_at(record + 10);
-    uint32_t code = mark == 'D' ? input_code(T, x, 0.0, greatest_rho, 4) : input_code(T, x, 1.0, 1e7, 5);
+    uint32_t code = mark == 'D' ? input_code(T, x, least_rho, greatest_rho, 4) : input_code(T, x, least_P, greatest_P, 5);
     if (code != 0)
         return code;
     return out_len < 8 ? 7 : work(mark, T, x, out);

@@ -1,7 +1,8 @@
 //! The C call in Rust, in the package's form: a record read, its inputs tested, the pressure worked or the density
 //! searched.
 use super::{pressure_of, state_at};
-use crate::searches::{rust_plain_above, rust_plain_below};
+use crate::r245ca::{GREATEST_P, GREATEST_RHO, GREATEST_T, LEAST_P, LEAST_RHO, LEAST_T, TOP};
+use crate::searches::rust_plain;
 
 fn finite(x: f64) -> Result<f64, u32> {
     if x.is_nan() {
@@ -13,8 +14,7 @@ fn finite(x: f64) -> Result<f64, u32> {
 
 /// The search's own refusals, 8 and 12, are met by no record.
 fn search(t: f64, p: f64, above: bool) -> Result<f64, u32> {
-    let rho = if above { rust_plain_above(t, p) } else { rust_plain_below(t, p) };
-    finite(rho).map_err(|_| 8)
+    finite(rust_plain(t, p, TOP, u32::from(above))).map_err(|_| 8)
 }
 
 fn pressure(t: f64, rho: f64) -> Result<f64, u32> {
@@ -25,7 +25,7 @@ fn pressure(t: f64, rho: f64) -> Result<f64, u32> {
 fn tested(t: f64, x: f64, second: core::ops::RangeInclusive<f64>, outside: u32) -> Result<(), u32> {
     if !t.is_finite() || !x.is_finite() {
         Err(2)
-    } else if !(196.0..=450.0).contains(&t) {
+    } else if !(LEAST_T..=GREATEST_T).contains(&t) {
         Err(3)
     } else if !second.contains(&x) {
         Err(outside)
@@ -39,8 +39,8 @@ fn answered(record: &[u8], room: usize) -> Result<f64, u32> {
     let number = |from: usize| f64::from_le_bytes(core::array::from_fn(|k| record[from + k]));
     let (t, x) = (number(2), number(10));
     match &record[..2] {
-        b"TD" => tested(t, x, 0.0..=13.0, 4)?,
-        b"TB" | b"TA" | b"TP" => tested(t, x, 1.0..=1e7, 5)?,
+        b"TD" => tested(t, x, LEAST_RHO..=GREATEST_RHO, 4)?,
+        b"TB" | b"TA" | b"TP" => tested(t, x, LEAST_P..=GREATEST_P, 5)?,
         b"TN" => return Err(1),
         _ => return Err(14),
     }

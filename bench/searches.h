@@ -1,10 +1,11 @@
-/* Density from pressure in the package's steps, over 1,664 cells: the plain search, the preparation of two lists, and the quick
- * search. Included by a form that has defined `struct kept`, `keep` and `sums_at` before; a refusal is a NaN. */
+/* Density from pressure in the package's steps, over c cells: the plain search, the preparation of two lists, and the quick search.
+ * Side 0 is from below, any other from above; a refusal is a NaN. Included by a form that has defined `struct kept`, `keep` and
+ * `sums_at` before. */
 #include <stdint.h>
 
 #include "named.h"
 
-enum { TOP = 1664, HALVINGS = 23 };
+enum { HALVINGS = 23 };
 
 static double step_density(size_t k) {
     return (double)k * 0x1p-30;
@@ -19,8 +20,12 @@ static double end_pressure(const struct kept *kept, size_t j) {
     return step_pressure(kept, j << HALVINGS);
 }
 
-static int permitted_search(double T, double P) {
-    return least_T <= T && T <= greatest_T && 1.0 <= P && P <= 1e7;
+static int permitted_cells(size_t c) {
+    return 1 <= c && c <= TOP;
+}
+
+static int permitted_search(double T, double P, size_t c) {
+    return least_T <= T && T <= greatest_T && least_P <= P && P <= greatest_P && permitted_cells(c);
 }
 
 /* ---- plain */
@@ -40,48 +45,47 @@ static double in_cell(const struct kept *kept, double P, size_t cell) {
     return upper - lower == 1 ? step_density(lower) : NAN;
 }
 
-double NAMED(plain_below)(double T, double P);
-double NAMED(plain_above)(double T, double P);
-
-double NAMED(plain_below)(double T, double P) {
-    if (!permitted_search(T, P))
-        return NAN;
-    struct kept kept;
-    keep(&kept, T);
-    for (size_t j = 1; j <= TOP; j++) {
-        double p = end_pressure(&kept, j);
+static double plain_from_below(const struct kept *kept, double P, size_t c) {
+    for (size_t j = 1; j <= c; j++) {
+        double p = end_pressure(kept, j);
         if (isnan(p))
             return NAN;
         if (p > P)
-            return in_cell(&kept, P, j - 1);
+            return in_cell(kept, P, j - 1);
     }
     return NAN;
 }
 
-double NAMED(plain_above)(double T, double P) {
-    if (!permitted_search(T, P))
-        return NAN;
-    struct kept kept;
-    keep(&kept, T);
-    double top = end_pressure(&kept, TOP);
+static double plain_from_above(const struct kept *kept, double P, size_t c) {
+    double top = end_pressure(kept, c);
     if (isnan(top) || top <= P)
         return NAN;
-    for (size_t j = TOP; j-- > 0;) {
-        double p = end_pressure(&kept, j);
+    for (size_t j = c; j-- > 0;) {
+        double p = end_pressure(kept, j);
         if (isnan(p))
             return NAN;
         if (p <= P)
-            return in_cell(&kept, P, j);
+            return in_cell(kept, P, j);
     }
     return NAN;
+}
+
+double NAMED(plain)(double T, double P, size_t c, uint32_t side);
+
+double NAMED(plain)(double T, double P, size_t c, uint32_t side) {
+    if (!permitted_search(T, P, c))
+        return NAN;
+    struct kept kept;
+    keep(&kept, T);
+    return side == 0 ? plain_from_below(&kept, P, c) : plain_from_above(&kept, P, c);
 }
 
 /* ---- preparing */
 
-uint32_t NAMED(prepare)(double T, double *G, size_t places_G, double *L, size_t places_L);
+uint32_t NAMED(prepare)(double T, size_t c, double *G, size_t places_G, double *L, size_t places_L);
 
-static int filled(const struct kept *kept, double *G, double *L) {
-    for (size_t j = 0; j <= TOP; j++) {
+static int filled(const struct kept *kept, size_t c, double *G, double *L) {
+    for (size_t j = 0; j <= c; j++) {
         double p = end_pressure(kept, j);
         if (isnan(p))
             return 0;
@@ -90,33 +94,36 @@ static int filled(const struct kept *kept, double *G, double *L) {
     return 1;
 }
 
-uint32_t NAMED(prepare)(double T, double *G, size_t places_G, double *L, size_t places_L) {
+uint32_t NAMED(prepare)(double T, size_t c, double *G, size_t places_G, double *L, size_t places_L) {
     if (!isfinite(T))
         return 2;
     if (!(least_T <= T && T <= greatest_T))
         return 3;
-    if (places_G <= TOP || places_L <= TOP)
+    if (!permitted_cells(c))
+        return 6;
+    if (places_G <= c || places_L <= c)
         return 7;
     struct kept kept;
     keep(&kept, T);
-    if (!filled(&kept, G, L)) {
-        for (size_t j = 0; j <= TOP; j++)
+    if (!filled(&kept, c, G, L)) {
+        for (size_t j = 0; j <= c; j++)
             G[j] = L[j] = 0.0;
         return 12;
     }
-    for (size_t j = 0; j < TOP; j++)
+    for (size_t j = 0; j < c; j++)
         G[j + 1] = G[j] < G[j + 1] ? G[j + 1] : G[j];
-    for (size_t j = TOP; j-- > 0;)
+    for (size_t j = c; j-- > 0;)
         L[j] = L[j + 1] < L[j] ? L[j + 1] : L[j];
     return 0;
 }
 
-/* ---- quick, from below */
+/* ---- quick */
 
-double NAMED(quick)(double T, double P, const double *G, size_t places_G, const double *L, size_t places_L);
+double NAMED(quick)(double T, double P, size_t c, uint32_t side, const double *G, size_t places_G, const double *L,
+                    size_t places_L);
 
-static size_t halved_places(const double *list, double P) {
-    size_t a = 0, b = TOP;
+static size_t halved_places(const double *list, double P, size_t c) {
+    size_t a = 0, b = c;
     while (b - a > 1) {
         size_t middle = (a + b) / 2;
         if (list[middle] > P)
@@ -127,13 +134,14 @@ static size_t halved_places(const double *list, double P) {
     return a;
 }
 
-double NAMED(quick)(double T, double P, const double *G, size_t places_G, const double *L, size_t places_L) {
-    (void)L;
-    if (!permitted_search(T, P) || places_G <= TOP || places_L <= TOP || !(G[TOP] > P))
+double NAMED(quick)(double T, double P, size_t c, uint32_t side, const double *G, size_t places_G, const double *L,
+                    size_t places_L) {
+    const double *list = side == 0 ? G : L;
+    if (!permitted_search(T, P, c) || places_G <= c || places_L <= c || !(list[c] > P))
         return NAN;
     struct kept kept;
     keep(&kept, T);
-    size_t a = halved_places(G, P);
+    size_t a = halved_places(list, P, c);
     double low = end_pressure(&kept, a), high = end_pressure(&kept, a + 1);
     return low <= P && P < high ? in_cell(&kept, P, a) : NAN;
 }

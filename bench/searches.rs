@@ -1,8 +1,8 @@
-//! Density from pressure in Rust in the package's steps, over 1,664 cells: the plain search, the preparation of two lists, and the
-//! quick search. A refusal is a NaN.
+//! Density from pressure in Rust in the package's steps, over c cells: the plain search, the preparation of two lists, and the
+//! quick search. Side 0 is from below, any other from above; a refusal is a NaN.
 use crate::equation::{keep, pressure_at, Kept};
+use crate::r245ca::{GREATEST_P, GREATEST_T, LEAST_P, LEAST_T, TOP};
 
-const TOP: usize = 1664;
 const HALVINGS: u32 = 23;
 
 fn step_density(k: usize) -> f64 {
@@ -17,8 +17,12 @@ fn end_pressure(kept: &Kept, j: usize) -> f64 {
     step_pressure(kept, j << HALVINGS)
 }
 
-fn permitted(t: f64, p: f64) -> bool {
-    (196.0..=450.0).contains(&t) && (1.0..=1e7).contains(&p)
+fn permitted_cells(c: usize) -> bool {
+    (1..=TOP).contains(&c)
+}
+
+fn permitted(t: f64, p: f64, c: usize) -> bool {
+    (LEAST_T..=GREATEST_T).contains(&t) && (LEAST_P..=GREATEST_P).contains(&p) && permitted_cells(c)
 }
 
 fn in_cell(kept: &Kept, p: f64, cell: usize) -> f64 {
@@ -42,49 +46,52 @@ fn in_cell(kept: &Kept, p: f64, cell: usize) -> f64 {
     }
 }
 
-#[no_mangle]
-pub extern "C" fn rust_plain_below(t: f64, p: f64) -> f64 {
-    if !permitted(t, p) {
-        return f64::NAN;
-    }
-    let kept = keep(t);
-    for j in 1..=TOP {
-        let pressure = end_pressure(&kept, j);
+fn plain_from_below(kept: &Kept, p: f64, c: usize) -> f64 {
+    for j in 1..=c {
+        let pressure = end_pressure(kept, j);
         if pressure.is_nan() {
             return f64::NAN;
         }
         if pressure > p {
-            return in_cell(&kept, p, j - 1);
+            return in_cell(kept, p, j - 1);
+        }
+    }
+    f64::NAN
+}
+
+fn plain_from_above(kept: &Kept, p: f64, c: usize) -> f64 {
+    let top = end_pressure(kept, c);
+    if top.is_nan() || top <= p {
+        return f64::NAN;
+    }
+    for j in (0..c).rev() {
+        let pressure = end_pressure(kept, j);
+        if pressure.is_nan() {
+            return f64::NAN;
+        }
+        if pressure <= p {
+            return in_cell(kept, p, j);
         }
     }
     f64::NAN
 }
 
 #[no_mangle]
-pub extern "C" fn rust_plain_above(t: f64, p: f64) -> f64 {
-    if !permitted(t, p) {
+pub extern "C" fn rust_plain(t: f64, p: f64, c: usize, side: u32) -> f64 {
+    if !permitted(t, p, c) {
         return f64::NAN;
     }
     let kept = keep(t);
-    let top = end_pressure(&kept, TOP);
-    if top.is_nan() || top <= p {
-        return f64::NAN;
+    if side == 0 {
+        plain_from_below(&kept, p, c)
+    } else {
+        plain_from_above(&kept, p, c)
     }
-    for j in (0..TOP).rev() {
-        let pressure = end_pressure(&kept, j);
-        if pressure.is_nan() {
-            return f64::NAN;
-        }
-        if pressure <= p {
-            return in_cell(&kept, p, j);
-        }
-    }
-    f64::NAN
 }
 
 /// The pressures at all ends into both lists; false where one of them is not finite.
-fn filled(kept: &Kept, greatest: &mut [f64], least: &mut [f64]) -> bool {
-    for (j, (g, l)) in greatest.iter_mut().zip(least).enumerate().take(TOP + 1) {
+fn filled(kept: &Kept, c: usize, greatest: &mut [f64], least: &mut [f64]) -> bool {
+    for (j, (g, l)) in greatest.iter_mut().zip(least).enumerate().take(c + 1) {
         let pressure = end_pressure(kept, j);
         if pressure.is_nan() {
             return false;
@@ -95,28 +102,31 @@ fn filled(kept: &Kept, greatest: &mut [f64], least: &mut [f64]) -> bool {
     true
 }
 
-fn prepared(t: f64, greatest: &mut [f64], least: &mut [f64]) -> u32 {
+fn prepared(t: f64, c: usize, greatest: &mut [f64], least: &mut [f64]) -> u32 {
     if !t.is_finite() {
         return 2;
     }
-    if !(196.0..=450.0).contains(&t) {
+    if !(LEAST_T..=GREATEST_T).contains(&t) {
         return 3;
     }
-    if greatest.len() <= TOP || least.len() <= TOP {
+    if !permitted_cells(c) {
+        return 6;
+    }
+    if greatest.len() <= c || least.len() <= c {
         return 7;
     }
-    if !filled(&keep(t), greatest, least) {
-        greatest.iter_mut().take(TOP + 1).for_each(|g| *g = 0.0);
-        least.iter_mut().take(TOP + 1).for_each(|l| *l = 0.0);
+    if !filled(&keep(t), c, greatest, least) {
+        greatest.iter_mut().take(c + 1).for_each(|g| *g = 0.0);
+        least.iter_mut().take(c + 1).for_each(|l| *l = 0.0);
         return 12;
     }
     let mut so_far = f64::NEG_INFINITY;
-    for g in greatest.iter_mut().take(TOP + 1) {
+    for g in greatest.iter_mut().take(c + 1) {
         so_far = if so_far < *g { *g } else { so_far };
         *g = so_far;
     }
     let mut from_here = f64::INFINITY;
-    for l in least.iter_mut().take(TOP + 1).rev() {
+    for l in least.iter_mut().take(c + 1).rev() {
         from_here = if from_here < *l { from_here } else { *l };
         *l = from_here;
     }
@@ -127,16 +137,16 @@ fn prepared(t: f64, greatest: &mut [f64], least: &mut [f64]) -> u32 {
 ///
 /// The lists point to as many numbers as they have places, and do not overlap.
 #[no_mangle]
-pub unsafe extern "C" fn rust_prepare(t: f64, g: *mut f64, places_g: usize, l: *mut f64, places_l: usize) -> u32 {
-    prepared(t, core::slice::from_raw_parts_mut(g, places_g), core::slice::from_raw_parts_mut(l, places_l))
+pub unsafe extern "C" fn rust_prepare(t: f64, c: usize, g: *mut f64, places_g: usize, l: *mut f64, places_l: usize) -> u32 {
+    prepared(t, c, core::slice::from_raw_parts_mut(g, places_g), core::slice::from_raw_parts_mut(l, places_l))
 }
 
 fn is_above(list: &[f64], place: usize, p: f64) -> bool {
     list.get(place).is_some_and(|&x| x > p)
 }
 
-fn halved_places(list: &[f64], p: f64) -> usize {
-    let (mut a, mut b) = (0, TOP);
+fn halved_places(list: &[f64], p: f64, c: usize) -> usize {
+    let (mut a, mut b) = (0, c);
     while b - a > 1 {
         let middle = (a + b) / 2;
         if is_above(list, middle, p) {
@@ -148,23 +158,35 @@ fn halved_places(list: &[f64], p: f64) -> usize {
     a
 }
 
-/// From below.
-///
-/// # Safety
-///
-/// The lists point to as many numbers as they have places.
-#[no_mangle]
-pub unsafe extern "C" fn rust_quick(t: f64, p: f64, g: *const f64, places_g: usize, _l: *const f64, places_l: usize) -> f64 {
-    let greatest = core::slice::from_raw_parts(g, places_g);
-    if !permitted(t, p) || places_l <= TOP || !is_above(greatest, TOP, p) {
+fn quick(t: f64, p: f64, c: usize, side: u32, greatest: &[f64], least: &[f64]) -> f64 {
+    let list = if side == 0 { greatest } else { least };
+    if !permitted(t, p, c) || greatest.len() <= c || least.len() <= c || !is_above(list, c, p) {
         return f64::NAN;
     }
     let kept = keep(t);
-    let a = halved_places(greatest, p);
+    let a = halved_places(list, p, c);
     let (low, high) = (end_pressure(&kept, a), end_pressure(&kept, a + 1));
     if low <= p && p < high {
         in_cell(&kept, p, a)
     } else {
         f64::NAN
     }
+}
+
+/// # Safety
+///
+/// The lists point to as many numbers as they have places.
+#[no_mangle]
+pub unsafe extern "C" fn rust_quick(
+    t: f64,
+    p: f64,
+    c: usize,
+    side: u32,
+    g: *const f64,
+    places_g: usize,
+    l: *const f64,
+    places_l: usize,
+) -> f64 {
+    let greatest = core::slice::from_raw_parts(g, places_g);
+    quick(t, p, c, side, greatest, core::slice::from_raw_parts(l, places_l))
 }

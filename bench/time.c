@@ -12,7 +12,9 @@
 #include <string.h>
 #include <time.h>
 
-enum { INPUTS = 4096, WIDEST = 2, TRIALS = 25, EDGES = 16, PLACES = 1665 };
+enum { INPUTS = 4096, WIDEST = 2, TRIALS = 25, EDGES = 16, CELLS = 1664, PLACES = CELLS + 1 };
+
+enum { BELOW, ABOVE };
 
 /* ---- candidates */
 
@@ -24,19 +26,19 @@ static const char *const candidate_names[CANDIDATES] = {"package", "naive C", "C
 typedef void candidate(void);
 
 #define DECLARE(name, ...)                                                                                            \
-    double verriblom_##name(__VA_ARGS__);                                                                             \
+    double bench_##name(__VA_ARGS__);                                                                                 \
     double naive_##name(__VA_ARGS__);                                                                                 \
     double c_o2_##name(__VA_ARGS__);                                                                                  \
     double c_o3_##name(__VA_ARGS__);                                                                                  \
     double rust_##name(__VA_ARGS__);
 #define ALL_BUT_NAIVE(name)                                                                                           \
     {                                                                                                                 \
-        (candidate *)verriblom_##name, NULL, (candidate *)c_o2_##name, (candidate *)c_o3_##name,                      \
+        (candidate *)bench_##name, NULL, (candidate *)c_o2_##name, (candidate *)c_o3_##name,                          \
             (candidate *)rust_##name                                                                                  \
     }
 #define ALL_OF(name)                                                                                                  \
     {                                                                                                                 \
-        (candidate *)verriblom_##name, (candidate *)naive_##name, (candidate *)c_o2_##name,                           \
+        (candidate *)bench_##name, (candidate *)naive_##name, (candidate *)c_o2_##name,                               \
             (candidate *)c_o3_##name, (candidate *)rust_##name                                                        \
     }
 
@@ -48,14 +50,13 @@ DECLARE(entropy, double, double)
 DECLARE(isobaric, double, double)
 DECLARE(sound_speed, double, double)
 DECLARE(isotherm, double, const double *, size_t)
-DECLARE(plain_below, double, double)
-DECLARE(plain_above, double, double)
-DECLARE(quick, double, double, const double *, size_t, const double *, size_t)
+DECLARE(plain, double, double, size_t, uint32_t)
+DECLARE(quick, double, double, size_t, uint32_t, const double *, size_t, const double *, size_t)
 
-uint32_t verriblom_prepare(double, double *, size_t, double *, size_t);
-uint32_t c_o2_prepare(double, double *, size_t, double *, size_t);
-uint32_t c_o3_prepare(double, double *, size_t, double *, size_t);
-uint32_t rust_prepare(double, double *, size_t, double *, size_t);
+uint32_t bench_prepare(double, size_t, double *, size_t, double *, size_t);
+uint32_t c_o2_prepare(double, size_t, double *, size_t, double *, size_t);
+uint32_t c_o3_prepare(double, size_t, double *, size_t, double *, size_t);
+uint32_t rust_prepare(double, size_t, double *, size_t, double *, size_t);
 
 /* ---- calls */
 
@@ -85,30 +86,46 @@ static double sum_along(candidate *f, const double *inputs, int count) {
     return call(400.0, inputs, (size_t)count);
 }
 
+static double sum_of_plain(candidate *f, const double *inputs, int count, uint32_t side) {
+    double (*call)(double, double, size_t, uint32_t) = (double (*)(double, double, size_t, uint32_t))f;
+    double total = call(inputs[0], inputs[1], CELLS, side);
+    for (int i = 1; i < count; i++)
+        total += call(inputs[2 * i], inputs[2 * i + 1], CELLS, side);
+    return total;
+}
+
+static double sum_of_below(candidate *f, const double *inputs, int count) {
+    return sum_of_plain(f, inputs, count, BELOW);
+}
+
+static double sum_of_above(candidate *f, const double *inputs, int count) {
+    return sum_of_plain(f, inputs, count, ABOVE);
+}
+
 /* All places of both lists count, so that a difference in one shows. */
 static double sum_of_lists(candidate *f, const double *inputs, int count) {
     static double G[PLACES], L[PLACES];
-    uint32_t (*call)(double, double *, size_t, double *, size_t) =
-        (uint32_t (*)(double, double *, size_t, double *, size_t))f;
+    uint32_t (*call)(double, size_t, double *, size_t, double *, size_t) =
+        (uint32_t (*)(double, size_t, double *, size_t, double *, size_t))f;
     double total = 0.0;
     for (int i = 0; i < count; i++) {
-        total += call(inputs[i], G, PLACES, L, PLACES);
+        total += call(inputs[i], CELLS, G, PLACES, L, PLACES);
         for (int j = 0; j < PLACES; j++)
             total += G[j] - 0.5 * L[j];
     }
     return total;
 }
 
-/* Over lists prepared at 400 K. */
+/* From below, over lists prepared at 400 K. */
 static double sum_of_quick(candidate *f, const double *inputs, int count) {
     static double G[PLACES], L[PLACES];
-    double (*call)(double, double, const double *, size_t, const double *, size_t) =
-        (double (*)(double, double, const double *, size_t, const double *, size_t))f;
+    double (*call)(double, double, size_t, uint32_t, const double *, size_t, const double *, size_t) =
+        (double (*)(double, double, size_t, uint32_t, const double *, size_t, const double *, size_t))f;
     if (G[PLACES - 1] == 0.0)
-        verriblom_prepare(400.0, G, PLACES, L, PLACES);
-    double total = call(400.0, inputs[0], G, PLACES, L, PLACES);
+        bench_prepare(400.0, CELLS, G, PLACES, L, PLACES);
+    double total = call(400.0, inputs[0], CELLS, BELOW, G, PLACES, L, PLACES);
     for (int i = 1; i < count; i++)
-        total += call(400.0, inputs[i], G, PLACES, L, PLACES);
+        total += call(400.0, inputs[i], CELLS, BELOW, G, PLACES, L, PLACES);
     return total;
 }
 
@@ -159,7 +176,7 @@ static void draw_state(double *input) {
     do {
         input[0] = uniform(196.0, 450.0);
         input[1] = next_word() >> 63 ? uniform(3.92, 13.0) : uniform(0.0, 3.92);
-    } while (isnan(verriblom_sound_speed(input[0], input[1])));
+    } while (isnan(bench_sound_speed(input[0], input[1])));
 }
 
 static void draw_density(double *input) {
@@ -179,7 +196,7 @@ static void draw_question(double *input) {
     do {
         draw_temperature(input);
         draw_pressure(input + 1);
-    } while (isnan(verriblom_plain_below(input[0], input[1])) || isnan(verriblom_plain_above(input[0], input[1])));
+    } while (isnan(bench_plain(input[0], input[1], CELLS, BELOW)) || isnan(bench_plain(input[0], input[1], CELLS, ABOVE)));
 }
 
 /* ---- rows */
@@ -225,8 +242,8 @@ static const struct row rows[] = {
     {"isobaric heat capacity", "states", 2, draw_state, sum_of_two, ALL_OF(isobaric), STATE_EDGES, 0},
     {"sound speed", "states", 2, draw_state, sum_of_two, ALL_OF(sound_speed), STATE_EDGES, 0},
     {"pressure", "densities at 400 K", 1, draw_density, sum_along, ALL_OF(isotherm), 7, {OUTSIDE, 0x1p-80, 13.0}, 0},
-    {"plain search", "from below", 2, draw_question, sum_of_two, ALL_BUT_NAIVE(plain_below), QUESTION_EDGES, 16},
-    {"plain search", "from above", 2, draw_question, sum_of_two, ALL_BUT_NAIVE(plain_above), QUESTION_EDGES, 16},
+    {"plain search", "from below", 2, draw_question, sum_of_below, ALL_BUT_NAIVE(plain), QUESTION_EDGES, 16},
+    {"plain search", "from above", 2, draw_question, sum_of_above, ALL_BUT_NAIVE(plain), QUESTION_EDGES, 16},
     {"preparation", "temperatures", 1, draw_temperature, sum_of_lists, ALL_BUT_NAIVE(prepare), 2, {196.0, 450.0}, 4},
     {"quick search", "pressures at 400 K", 1, draw_pressure, sum_of_quick, ALL_BUT_NAIVE(quick), 8,
      {OUTSIDE, 0.5, 1.0, 1e7}, 256},

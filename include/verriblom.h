@@ -32,32 +32,34 @@ extern "C" {
 
 /*
  * What verriblom_answer returns. Where several refusals apply the first of 15, 14, 1, 2, 3, 4, 5, 7
- * counts. A search could end with 8, 9 or 12 as well; it is proved that no record meets these.
+ * counts. "Tested" says which records are tested for the code, "can occur" which ones can meet it.
+ * 8, 9 and 12 are tested as the work goes on, and it is proved that no record meets them; nor is
+ * any number returned that does not stand here (docs/NO-ANSWER.md).
  */
 enum verriblom_code {
-    /* the first eight bytes of the output hold the number */
+    /* the first eight bytes of the output hold the number. Can occur: TD, TB, TA, TP */
     VERRIBLOM_ANSWERED = 0,
-    /* the record says "no reading" */
+    /* the record says "no reading". Tested: every record of 18 bytes. Can occur: TN */
     VERRIBLOM_NO_READING = 1,
-    /* an input number is NaN or infinite */
+    /* an input number is NaN or infinite. Tested: TD, TB, TA, TP. Can occur: the same */
     VERRIBLOM_INPUT_NOT_FINITE = 2,
-    /* the temperature is outside 196 to 450 K */
+    /* the temperature is outside 196 to 450 K. Tested: TD, TB, TA, TP. Can occur: the same */
     VERRIBLOM_TEMPERATURE_OUTSIDE = 3,
-    /* the density is outside 0 to 13 mol/dm3 */
+    /* the density is outside 0 to 13 mol/dm3. Tested: TD. Can occur: the same */
     VERRIBLOM_DENSITY_OUTSIDE = 4,
-    /* the pressure is outside 1 to 10,000,000 Pa */
+    /* the pressure is outside 1 to 10,000,000 Pa. Tested: TB, TA, TP. Can occur: the same */
     VERRIBLOM_PRESSURE_OUTSIDE = 5,
-    /* the output has less than eight bytes */
+    /* the output has less than eight bytes. Tested: TD, TB, TA, TP. Can occur: the same */
     VERRIBLOM_OUTPUT_TOO_SHORT = 7,
-    /* no cell of the search has the pressure */
+    /* no cell of the search has the pressure. Tested: TB, TA, TP. Can occur: never */
     VERRIBLOM_NO_CELL = 8,
-    /* 23 halvings did not end at neighbours */
+    /* 23 halvings did not end at neighbours. Tested: TB, TA, TP. Can occur: never */
     VERRIBLOM_NOT_NEIGHBOURS = 9,
-    /* a worked value is not finite */
+    /* a worked value is not finite. Tested: TD, TB, TA, TP. Can occur: never */
     VERRIBLOM_WORK_NOT_FINITE = 12,
-    /* the first two bytes are no mark */
+    /* the first two bytes are no mark. Tested: every record of 18 bytes. Can occur: any other mark */
     VERRIBLOM_UNKNOWN_MARK = 14,
-    /* the record has not exactly 18 bytes */
+    /* the record has not exactly 18 bytes. Tested: every record. Can occur: any other length */
     VERRIBLOM_RECORD_CUT_SHORT = 15
 };
 

@@ -64,7 +64,10 @@ class Refusals(unittest.TestCase):
 
 
 def load_tests(loader, tests, pattern):
-    tests.addTests(doctest.DocTestSuite(verriblom))
+    examples = doctest.DocTestSuite(verriblom)
+    if examples.countTestCases() == 0:
+        raise AssertionError("the module has no examples")
+    tests.addTests(examples)
     return tests
 
 

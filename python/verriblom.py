@@ -45,16 +45,30 @@ class Refusal(enum.IntEnum):
 
     meaning: str
 
+    # Of each refusal: which records are tested for it, and which ones can meet it. That 8, 9 and 12
+    # never occur, nor any number that is not here, is proved (docs/NO-ANSWER.md).
+
+    # tested: every record of 18 bytes; can occur: TN
     NO_READING = 1, 'the record says "no reading"'
+    # tested: TD, TB, TA, TP; can occur: the same
     INPUT_NOT_FINITE = 2, "an input number is NaN or infinite"
+    # tested: TD, TB, TA, TP; can occur: the same
     TEMPERATURE_OUTSIDE = 3, "the temperature is outside 196 to 450 K"
+    # tested: TD; can occur: the same
     DENSITY_OUTSIDE = 4, "the density is outside 0 to 13 mol/dm³"
+    # tested: TB, TA, TP; can occur: the same
     PRESSURE_OUTSIDE = 5, "the pressure is outside 1 to 10,000,000 Pa"
+    # tested: TD, TB, TA, TP; can occur: the same, but never here, where the output has eight bytes
     OUTPUT_TOO_SHORT = 7, "the output has less than eight bytes"
+    # tested: TB, TA, TP; can occur: never
     NO_CELL = 8, "no cell of the search has the pressure"
+    # tested: TB, TA, TP; can occur: never
     NOT_NEIGHBOURS = 9, "23 halvings did not end at neighbours"
+    # tested: TD, TB, TA, TP; can occur: never
     WORK_NOT_FINITE = 12, "a worked value is not finite"
+    # tested: every record of 18 bytes; can occur: any other mark
     UNKNOWN_MARK = 14, "the first two bytes are no mark"
+    # tested: every record; can occur: any other length
     RECORD_CUT_SHORT = 15, "the record has not exactly 18 bytes"
 
 

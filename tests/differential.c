@@ -4,11 +4,11 @@
  *
  *     differential PROBE SEED COUNT [WORD...]
  *
- * COUNT questions for each call. A WORD is the number of a built call, the
- * name of a group of calls (elementary, properties, estimates, searches), or
- * one of unknown (numbers that are no built call), mixed (the built calls by
- * turns), second (a call of one number does not look at the second) and pieces
- * (inputs of 0 to 49 bytes). Without a WORD everything is asked.
+ * COUNT questions for each call. A WORD is the number of a call, the name of a
+ * group of calls (elementary, properties, estimates, searches), or one of
+ * unknown (numbers that are no call), mixed (all calls by turns), second (a
+ * call of one number does not look at the second) and pieces (inputs of 0 to 49
+ * bytes). Without a WORD everything is asked.
  */
 #include "differential/asked.h"
 #include "generator.h"
@@ -42,26 +42,30 @@ static void compare_call(struct asked *asked, uint64_t call)
     compare_stream(asked, known_call(call)->name, &call, 1);
 }
 
-/* Each built call of the group, and their sum. */
+/* A group without a call would pass in name only. */
+static void expect_calls(struct asked *asked, const char *name, size_t calls)
+{
+    if (calls > 0)
+        return;
+    printf("%s: FAILED, there is no such call\n", name);
+    record(asked, false);
+}
+
+/* Each call of the group, and their sum. */
 static void compare_group(struct asked *asked, const struct group *group)
 {
+    size_t calls = 0;
     asked->tally = (struct tally){ 0 };
     for (size_t i = 0; i < known_calls_count; i++)
-        if (in_group(group, &known_calls[i]) && built(known_calls[i].number))
+        if (in_group(group, &known_calls[i])) {
             compare_call(asked, known_calls[i].number);
+            calls++;
+        }
+    expect_calls(asked, group->name, calls);
     printf("%s: %" PRIu64 " questions in all", group->name, questions_in(&asked->tally));
     show_tally(&asked->tally);
     printf("\n");
     fflush(stdout);
-}
-
-static size_t built_calls(uint64_t calls[CALLS_MOST])
-{
-    size_t count = 0;
-    for (size_t i = 0; i < known_calls_count; i++)
-        if (built(known_calls[i].number))
-            calls[count++] = known_calls[i].number;
-    return count;
 }
 
 static void compare_unknown(struct asked *asked)
@@ -72,17 +76,22 @@ static void compare_unknown(struct asked *asked)
 
 static void compare_mixed(struct asked *asked)
 {
-    uint64_t calls[CALLS_MOST + 1];
-    size_t count = built_calls(calls);
-    calls[count++] = UNKNOWN_CALLS;
-    compare_stream(asked, "all calls mixed", calls, count);
+    uint64_t calls[known_calls_count + 1];
+    for (size_t i = 0; i < known_calls_count; i++)
+        calls[i] = known_calls[i].number;
+    calls[known_calls_count] = UNKNOWN_CALLS;
+    compare_stream(asked, "all calls mixed", calls, known_calls_count + 1);
 }
 
 static void compare_seconds(struct asked *asked)
 {
+    size_t calls = 0;
     for (size_t i = 0; i < known_calls_count; i++)
-        if (built(known_calls[i].number) && takes_one_number(&known_calls[i]))
+        if (takes_one_number(&known_calls[i])) {
             compare_second(asked, known_calls[i].number);
+            calls++;
+        }
+    expect_calls(asked, "second number", calls);
 }
 
 static void compare_everything(struct asked *asked)
@@ -125,7 +134,7 @@ static bool compare_named(struct asked *asked, const char *name)
         compare_seconds(asked);
     else if (strcmp(name, "pieces") == 0)
         compare_pieces(asked);
-    else if (whole_number(name, &call) && built(call))
+    else if (whole_number(name, &call) && known_call(call) != NULL)
         compare_call(asked, call);
     else
         return false;

@@ -38,7 +38,7 @@ static uint64_t unknown_number(struct generator *g)
 static struct question unknown(struct generator *g)
 {
     uint64_t call = unknown_number(g);
-    while (built(call))
+    while (known_call(call) != NULL)
         call = unknown_number(g);
     uint64_t first = below(g, 2) ? temperature(g) : any_bits(g);
     uint64_t second = below(g, 2) ? density(g) : any_bits(g);

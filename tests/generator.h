@@ -4,7 +4,7 @@
 
 #include "wire.h"
 
-/* Stands among the calls for numbers that are no built call. */
+/* Stands among the calls for numbers that are no call. */
 #define UNKNOWN_CALLS UINT64_MAX
 
 struct generator {

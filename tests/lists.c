@@ -1,14 +1,15 @@
 /*
- * Asks the program `lists` and the independent implementation the same questions over lists, and compares code, density, word
- * and all places of both lists afterwards.
+ * Asks the package, through C, and the independent implementation the same questions over lists, and compares code, density,
+ * word and all places of both lists afterwards, bit for bit. The lent places of a list end where memory that may not be touched
+ * begins.
  *
- *     lists PROGRAM SEED COUNT
+ *     lists SEED COUNT
  */
+#include "guarded.h"
 #include "lists/question.h"
-#include "probe_run.h"
-#include "splitmix.h"
 
 #include <inttypes.h>
+#include <stdio.h>
 #include <stdlib.h>
 
 enum { CODES = 17, DIFFERENCES_SHOWN = 5 };
@@ -26,50 +27,15 @@ static const uint64_t codes_owed[LIST_CALLS] = {
     [QUICK_ABOVE] = 1 << 0 | 1 << 2 | 1 << 3 | 1 << 5 | 1 << 6 | 1 << 7 | 1 << 8 | 1 << 16,
 };
 
-struct stream {
-    uint64_t seed, count;
-};
-
 struct tally {
     uint64_t asked[LIST_CALLS][CODES], differing[LIST_CALLS];
 };
-
-static struct generator beginning(const struct stream *stream)
-{
-    return generator_of(stream->seed, NULL, 0);
-}
-
-static void write_stream(FILE *input, const void *what)
-{
-    const struct stream *stream = what;
-    struct generator g = beginning(stream);
-    for (uint64_t i = 0; i < stream->count && !ferror(input); i++) {
-        static struct list_question question;
-        static unsigned char bytes[8 * LIST_QUESTION_WORDS];
-        next_list_question(&g, &question);
-        const uint64_t *words = (const uint64_t *)&question;
-        for (int k = 0; k < LIST_QUESTION_WORDS; k++)
-            put_number(bytes + 8 * k, words[k]);
-        fwrite(bytes, 1, sizeof bytes, input);
-    }
-}
-
-static bool read_reply(struct probe_run *run, struct list_reply *reply)
-{
-    static unsigned char bytes[8 * LIST_REPLY_WORDS];
-    if (read_bytes(run, bytes, sizeof bytes) < sizeof bytes)
-        return false;
-    uint64_t *words = (uint64_t *)reply;
-    for (int k = 0; k < LIST_REPLY_WORDS; k++)
-        words[k] = get_number(bytes + 8 * k);
-    return true;
-}
 
 /* The first place at which the lists differ, or PLACES. */
 static int differing_place(const struct held *got, const struct held *wanted)
 {
     for (int i = 0; i < PLACES; i++)
-        if (got->G[i] != one_nan(wanted->G[i]) || got->L[i] != one_nan(wanted->L[i]))
+        if (got->G[i] != wanted->G[i] || got->L[i] != wanted->L[i])
             return i;
     return PLACES;
 }
@@ -95,19 +61,15 @@ static void show_difference(const struct list_question *question, const struct l
     printf("\n");
 }
 
-/* False where the replies end early. */
-static bool compare_all(struct probe_run *run, const struct stream *stream, struct tally *tally)
+static void compare_all(const struct lent_memory *memory, uint64_t seed, uint64_t count, struct tally *tally)
 {
-    struct generator g = beginning(stream);
+    struct generator g = generator_of(seed, NULL, 0);
     uint64_t shown = 0;
-    for (uint64_t i = 0; i < stream->count; i++) {
+    for (uint64_t i = 0; i < count; i++) {
         static struct list_question question;
         static struct list_reply got, wanted;
         next_list_question(&g, &question);
-        if (!read_reply(run, &got)) {
-            printf("  the replies end after %" PRIu64 " of %" PRIu64 "\n", i, stream->count);
-            return false;
-        }
+        ask_package(memory, &question, &got);
         answer_list_question(&question, &wanted);
         tally->asked[question.call][wanted.code]++;
         if (same_reply(&got, &wanted))
@@ -116,7 +78,6 @@ static bool compare_all(struct probe_run *run, const struct stream *stream, stru
         if (shown++ < DIFFERENCES_SHOWN)
             show_difference(&question, &got, &wanted);
     }
-    return true;
 }
 
 /* One call: how many questions were equal, by their codes, and whether a code it owes never came. */
@@ -150,19 +111,22 @@ static bool whole_number(const char *text, uint64_t *number)
 
 int main(int count, char **words)
 {
-    struct stream stream;
-    if (count != 4 || !whole_number(words[2], &stream.seed) || !whole_number(words[3], &stream.count)) {
-        fprintf(stderr, "usage: lists PROGRAM SEED COUNT\n");
+    uint64_t seed, questions;
+    if (count != 3 || !whole_number(words[1], &seed) || !whole_number(words[2], &questions)) {
+        fprintf(stderr, "usage: lists SEED COUNT\n");
         return EXIT_FAILURE;
     }
-    static struct probe_run run;
-    static struct tally tally;
-    bool ended = false;
-    if (start_probe(&run, words[1], write_stream, &stream)) {
-        ended = compare_all(&run, &stream, &tally);
-        ended = finish_probe(&run) && ended;
+    struct lent_memory memory = {
+        .G_end = guarded_end(PLACES * sizeof(double)),
+        .L_end = guarded_end(PLACES * sizeof(double)),
+    };
+    if (memory.G_end == NULL || memory.L_end == NULL) {
+        fprintf(stderr, "lists: no guarded memory\n");
+        return EXIT_FAILURE;
     }
-    int passed = ended, failed = !ended;
+    static struct tally tally;
+    compare_all(&memory, seed, questions, &tally);
+    int passed = 0, failed = 0;
     for (int call = 0; call < LIST_CALLS; call++)
         if (show_call(&tally, call))
             passed++;

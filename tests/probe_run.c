@@ -107,18 +107,12 @@ static bool next_byte(struct probe_run *run, unsigned char *byte)
     return true;
 }
 
-size_t read_bytes(struct probe_run *run, unsigned char *bytes, size_t count)
-{
-    size_t came = 0;
-    while (came < count && next_byte(run, &bytes[came]))
-        came++;
-    return came;
-}
-
 size_t read_answer(struct probe_run *run, struct answer *answer)
 {
     unsigned char bytes[ANSWER_BYTES];
-    size_t came = read_bytes(run, bytes, ANSWER_BYTES);
+    size_t came = 0;
+    while (came < ANSWER_BYTES && next_byte(run, &bytes[came]))
+        came++;
     if (came == ANSWER_BYTES)
         *answer = get_answer(bytes);
     return came;

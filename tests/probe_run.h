@@ -26,9 +26,6 @@ typedef void write_input(FILE *input, const void *what);
 /* False, and told, where a process could not be made. */
 bool start_probe(struct probe_run *run, const char *path, write_input *feed, const void *what);
 
-/* How many of the bytes came: fewer than asked for where the answers end. */
-size_t read_bytes(struct probe_run *run, unsigned char *bytes, size_t count);
-
 /* How many bytes of an answer came: 16, or fewer where the answers end. */
 size_t read_answer(struct probe_run *run, struct answer *answer);
 

@@ -9,15 +9,15 @@ samples, each of which must be found wrong.
 import re
 import sys
 from pathlib import Path
-from typing import Dict, Iterator, List, NamedTuple
+from typing import Iterator, List, NamedTuple
 
-PUBLIC = re.compile(r'^pub (?:extern "C" )?fn (\w+)', re.MULTILINE)
+PUBLIC = re.compile(r'^[ \t]*pub (?:[\w"]+ )*fn (\w+)', re.MULTILINE)
 ROW = re.compile(r"^\| `(\w+::\w+)` \|", re.MULTILINE)
 THEOREM = re.compile(r"^use Rattle·(\w+)\.proofs\.(\w+)\.Reads as (\S+)-reads$", re.MULTILINE)
 
 
 class Function(NamedTuple):
-    """A public function and its text from `pub fn` to its body."""
+    """A public function and its text from `pub` to its body."""
 
     name: str
     head: str
@@ -28,14 +28,17 @@ class Tree(NamedTuple):
 
     functions: List[Function]
     table: str
-    theorems: str
+    theorems: List[str]  # a text for each file
 
 
 def functions_of(crate: str, source: str) -> Iterator[Function]:
-    """The public functions of a source text; a body starts with a brace on a line of its own."""
+    """The public functions of a source text. After a contract a body starts with a brace on a line of its own, and without
+    one on the function's, so that the next such line is another function's."""
     for found in PUBLIC.finditer(source):
-        end = source.find("\n{", found.start())
-        yield Function(f"{crate}::{found.group(1)}", source[found.start() : end])
+        text = source[found.start() :]
+        with_body = text[: text.find("\n}")]
+        end = with_body.find("\n{")
+        yield Function(f"{crate}::{found.group(1)}", with_body[: end if end >= 0 else with_body.find("{")])
 
 
 def read_tree(root: Path) -> Tree:
@@ -48,24 +51,31 @@ def read_tree(root: Path) -> Tree:
     return Tree(
         functions,
         (root / "docs" / "PROMISES.md").read_text(encoding="utf-8"),
-        "\n".join(proof.read_text(encoding="utf-8") for proof in proofs),
+        [proof.read_text(encoding="utf-8") for proof in proofs],
     )
 
 
-def proved_once(theorems: str) -> List[str]:
-    """The functions whose contract a theorem `NAME-one` speaks of."""
-    return [
-        f"{crate}::{name}"
+def says(theorems: str, alias: str, what: str) -> bool:
+    """Whether the theorem `ALIAS-one` says this of what the contract tells. Its statement ends where a line starts."""
+    statement = re.search(rf"^pub {re.escape(alias)}-one :.*\n(?:[ \t].*\n)*", theorems, re.MULTILINE)
+    said = statement.group().split() if statement else []
+    return what in said and f"{alias}-reads.Learnt" in said
+
+
+def theorems_of(function: Function, files: List[str]) -> int:
+    """How many theorems say that the function has one result, and one outcome where memory is lent to it to be written."""
+    what = "OneOutcome" if "&mut " in function.head else "OneResult"
+    return sum(
+        f"{crate}::{name}" == function.name and says(theorems, alias, what)
+        for theorems in files
         for crate, name, alias in THEOREM.findall(theorems)
-        if re.search(rf"^pub {re.escape(alias)}-one\b", theorems, re.MULTILINE) and f"{alias}-reads.Learnt" in theorems
-    ]
+    )
 
 
 def complaints(tree: Tree) -> List[str]:
     """What is wrong, one line each."""
     wrong: List[str] = []
     rows = ROW.findall(tree.table)
-    proved = proved_once(tree.theorems)
     names = [function.name for function in tree.functions]
     for function in tree.functions:
         if "ensures {" not in function.head:
@@ -74,35 +84,55 @@ def complaints(tree: Tree) -> List[str]:
             wrong.append(f"{function.name} has a requires")
         if rows.count(function.name) != 1:
             wrong.append(f"{function.name} has {rows.count(function.name)} rows in docs/PROMISES.md")
-        if proved.count(function.name) != 1:
-            wrong.append(f"{function.name} has {proved.count(function.name)} theorems in crates/promises")
+        if (proved := theorems_of(function, tree.theorems)) != 1:
+            wrong.append(f"{function.name} has {proved} theorems in crates/promises")
     wrong.extend(f"docs/PROMISES.md has {row}, which is no public function" for row in rows if row not in names)
     return wrong
 
 
-GOOD_SOURCE = "pub fn f(x: u8) -> u8\n    ensures { r }\n{\n    x\n}\n"
-GOOD_TABLE = "| `a::f` | x |\n"
-GOOD_THEOREM = "use Rattle.a.proofs.f.Reads as f-reads\npub f-one : OneResult f-reads.Learnt\n"
-SAMPLES: Dict[str, Tree] = {
-    "has no ensures": Tree(list(functions_of("a", GOOD_SOURCE.replace("ensures", "// ensures:"))), GOOD_TABLE, GOOD_THEOREM),
-    "has a requires": Tree(
-        list(functions_of("a", GOOD_SOURCE.replace("    ensures", "    requires { p }\n    ensures"))), GOOD_TABLE, GOOD_THEOREM
-    ),
-    "has 0 rows": Tree(list(functions_of("a", GOOD_SOURCE)), "", GOOD_THEOREM),
-    "has 2 rows": Tree(list(functions_of("a", GOOD_SOURCE)), GOOD_TABLE * 2, GOOD_THEOREM),
-    "has 0 theorems": Tree(list(functions_of("a", GOOD_SOURCE)), GOOD_TABLE, GOOD_THEOREM.replace("f-one", "g-one")),
-    "is no public function": Tree([], GOOD_TABLE, GOOD_THEOREM),
-}
+SOURCE = "pub fn f(x: u8) -> u8\n    ensures { r }\n{\n    x\n}\n"
+PRIVATE = "\nfn g(x: u8) -> u8\n    ensures { r }\n{\n    x\n}\n"
+TABLE = "| `a::f` | x |\n"
+THEOREM_OF_F = "use Rattle.a.proofs.f.Reads as f-reads\npub f-one : OneResult\n    f-reads.Learnt\nf-one p q = p\n"
+
+
+def sample(source: str = SOURCE, table: str = TABLE, theorems: str = THEOREM_OF_F) -> Tree:
+    """A tree of one crate `a`, right but for what is given."""
+    return Tree(list(functions_of("a", source)), table, [theorems, "pub g-one : OneResult f-reads.Learnt\n"])
+
+
+class Sample(NamedTuple):
+    """A tree that is wrong, and the one thing to be said of it."""
+
+    complaint: str
+    tree: Tree
+
+
+SAMPLES: List[Sample] = [
+    Sample("a::f has no ensures", sample(SOURCE.replace("ensures", "// ensures:"))),
+    Sample("a::f has no ensures", sample("pub fn f(x: u8) -> u8 {\n    x\n}\n" + PRIVATE)),
+    Sample("a::f has no ensures", sample('    pub unsafe extern "C" fn f(x: u8) {\n    }\n')),
+    Sample("a::f has a requires", sample(SOURCE.replace("    ensures", "    requires { p }\n    ensures"))),
+    Sample("a::f has 0 rows", sample(table="")),
+    Sample("a::f has 2 rows", sample(table=TABLE * 2)),
+    Sample("a::f has 0 theorems", sample(theorems="")),
+    Sample("a::f has 0 theorems", sample(theorems=THEOREM_OF_F.replace("f-one", "g-one"))),
+    Sample("a::f has 0 theorems", sample(theorems=THEOREM_OF_F.replace("OneResult", "Anything"))),
+    Sample("a::f has 0 theorems", sample(theorems=THEOREM_OF_F.replace("    f-reads", "    g-reads"))),
+    Sample("a::f has 0 theorems", sample(SOURCE.replace("x: u8", "x: &mut [u8]"))),
+    Sample("a::f has 2 theorems", sample(theorems=THEOREM_OF_F * 2)),
+    Sample("a::f, which is no public function", sample(source=PRIVATE)),
+]
 
 
 def own_faults() -> List[str]:
     """Samples that the checker gets wrong."""
     wrong = [
-        f"the sample '{fault}' was not found wrong"
-        for fault, tree in SAMPLES.items()
-        if [fault in line for line in complaints(tree)] != [True]
+        f"'{complaint}' was to be said of a sample, and not {complaints(tree)}"
+        for complaint, tree in SAMPLES
+        if [complaint in line for line in complaints(tree)] != [True]
     ]
-    if complaints(Tree(list(functions_of("a", GOOD_SOURCE)), GOOD_TABLE, GOOD_THEOREM)):
+    if complaints(sample(SOURCE + PRIVATE)):
         wrong.append("the right sample was found wrong")
     return wrong
 
@@ -114,7 +144,7 @@ def main() -> int:
         wrong.append("no public function was found")
     for line in wrong:
         print(line)
-    checks = 4 * len(tree.functions) + len(SAMPLES) + 1
+    checks = 4 * len(tree.functions) + len(SAMPLES) + 2
     print(f"{max(checks - len(wrong), 0)} passed, {len(wrong)} failed")
     return 1 if wrong else 0
 

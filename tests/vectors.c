@@ -12,7 +12,6 @@
 #include <stdlib.h>
 #include <string.h>
 
-/* A call built later adds its questions before the unknown ones. */
 static section *const sections[] = {
     exp_questions,
     ln_questions,
@@ -59,6 +58,26 @@ static write_sheet *writer_named(const char *name)
     return strcmp(name, "answers") == 0 ? write_answers : NULL;
 }
 
+static bool is_asked(const struct sheet *sheet, uint64_t call)
+{
+    for (size_t i = 0; i < sheet->count; i++)
+        if (sheet->question[i].call == call)
+            return true;
+    return false;
+}
+
+/* A call that no section asks would be in no vector, and nothing would differ. */
+static bool every_call_is_asked(const struct sheet *sheet)
+{
+    for (size_t i = 0; i < known_calls_count; i++)
+        if (!is_asked(sheet, known_calls[i].number)) {
+            fprintf(stderr, "call %" PRIu64 ", %s, is not asked\n", known_calls[i].number,
+                    known_calls[i].name);
+            return false;
+        }
+    return true;
+}
+
 static int write_file(const char *name, write_sheet *writer, const struct sheet *sheet)
 {
     FILE *file = fopen(name, "wb");
@@ -85,5 +104,7 @@ int main(int count, char **words)
     }
     for (size_t i = 0; i < sizeof sections / sizeof *sections; i++)
         sections[i](&sheet);
+    if (!every_call_is_asked(&sheet))
+        return EXIT_FAILURE;
     return write_file(words[2], writer, &sheet);
 }

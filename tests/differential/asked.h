@@ -4,7 +4,7 @@
 
 #include "../wire.h"
 
-enum { CODES = 17, CALLS_MOST = 64 };
+enum { CODES = 17 };
 
 /* How many questions were compared, by the code that was expected. */
 struct tally {

@@ -104,7 +104,7 @@ static struct answer refusal(uint64_t code)
     return (struct answer){ .code = code, .bits = NO_BITS };
 }
 
-struct answer answer_known(uint64_t number, uint64_t a, uint64_t b)
+struct answer answer_question(uint64_t number, uint64_t a, uint64_t b)
 {
     const struct call *call = known_call(number);
     if (call == NULL)
@@ -113,9 +113,4 @@ struct answer answer_known(uint64_t number, uint64_t a, uint64_t b)
     if (outcome.code != ANSWERED)
         return refusal(outcome.code);
     return (struct answer){ .code = ANSWERED, .bits = bits_of(outcome.value) };
-}
-
-struct answer answer_question(uint64_t call, uint64_t a, uint64_t b)
-{
-    return built(call) ? answer_known(call, a, b) : refusal(REFUSED_UNKNOWN);
 }

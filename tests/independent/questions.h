@@ -16,7 +16,7 @@ struct answer {
 
 enum family { ELEMENTARY, PROPERTY, ESTIMATE, PLAIN_SEARCH, QUICK_SEARCH };
 
-/* A call that the probe will have in the end, built or not. */
+/* A call of the probe. */
 struct call {
     uint64_t number;
     const char *name;
@@ -32,13 +32,7 @@ const struct call *known_call(uint64_t number);
 
 bool takes_one_number(const struct call *call);
 
-/* Whether the package has built the call so far. */
-bool built(uint64_t number);
-
-/* As the probe answers today: 14 where the call is not built. */
-struct answer answer_question(uint64_t call, uint64_t a, uint64_t b);
-
-/* As the probe will answer when everything is built. */
-struct answer answer_known(uint64_t call, uint64_t a, uint64_t b);
+/* As the probe answers: 14 where the number is no call. */
+struct answer answer_question(uint64_t number, uint64_t a, uint64_t b);
 
 #endif

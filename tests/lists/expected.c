@@ -3,38 +3,28 @@
 
 #include "../independent/bits.h"
 
-#include <math.h>
-
 struct numbers {
     double G[PLACES], L[PLACES];
 };
 
-uint64_t one_nan(uint64_t bits)
-{
-    return isnan(number_of(bits)) ? 0x7ff8000000000000 : bits;
-}
-
+/* Copied as bytes, so that a NaN keeps its payload. */
 static void take_held(struct numbers *numbers, const struct held *held)
 {
-    for (int i = 0; i < PLACES; i++) {
-        numbers->G[i] = number_of(held->G[i]);
-        numbers->L[i] = number_of(held->L[i]);
-    }
+    memcpy(numbers->G, held->G, sizeof numbers->G);
+    memcpy(numbers->L, held->L, sizeof numbers->L);
 }
 
 static void give_held(struct held *held, const struct numbers *numbers)
 {
-    for (int i = 0; i < PLACES; i++) {
-        held->G[i] = bits_of(numbers->G[i]);
-        held->L[i] = bits_of(numbers->L[i]);
-    }
+    memcpy(held->G, numbers->G, sizeof held->G);
+    memcpy(held->L, numbers->L, sizeof held->L);
 }
 
 static struct lists lend(struct numbers *numbers, uint64_t lent_G, uint64_t lent_L)
 {
     return (struct lists){
-        .G = { numbers->G, lent_G < PLACES ? lent_G : PLACES },
-        .L = { numbers->L, lent_L < PLACES ? lent_L : PLACES },
+        .G = { numbers->G, lent_places(lent_G) },
+        .L = { numbers->L, lent_places(lent_L) },
     };
 }
 

@@ -1,4 +1,4 @@
-/* Questions over given lists, as the program `lists` takes and answers them. */
+/* Questions over given lists, as the independent implementation and the package answer them. */
 #ifndef LISTS_QUESTION_H
 #define LISTS_QUESTION_H
 
@@ -26,15 +26,25 @@ struct list_reply {
     struct held held;
 };
 
-enum { LIST_QUESTION_WORDS = sizeof(struct list_question) / 8, LIST_REPLY_WORDS = sizeof(struct list_reply) / 8 };
+/* Where the places end that are lent to the package. */
+struct lent_memory {
+    uint8_t *G_end, *L_end;
+};
 
 void next_list_question(struct generator *g, struct list_question *question);
+
+/* How many places are lent of a list. */
+static inline size_t lent_places(uint64_t asked)
+{
+    return asked < PLACES ? asked : PLACES;
+}
 
 /* As the independent implementation answers. */
 void answer_list_question(const struct list_question *question, struct list_reply *reply);
 
-/* Every NaN is one and the same to the program. */
-uint64_t one_nan(uint64_t bits);
+/* As the package answers, in that memory. */
+void ask_package(const struct lent_memory *memory, const struct list_question *question,
+                 struct list_reply *reply);
 
 /* The first c + 1 places as a preparation at T leaves them; untouched where it refuses. */
 void hold_prepared(struct held *held, double T, uint64_t c);

@@ -7,10 +7,10 @@
  */
 #include "../../include/verriblom.h"
 #include "../generator/draw.h"
+#include "../guarded.h"
 #include "../independent/bits.h"
 #include "../wire.h"
 #include "drawn.h"
-#include "guarded.h"
 #include "record.h"
 
 #include <inttypes.h>
@@ -35,9 +35,9 @@ _Static_assert((int)VERRIBLOM_ANSWERED == (int)ANSWERED
                    && (int)VERRIBLOM_RECORD_CUT_SHORT == (int)REFUSED_CUT_SHORT,
                "a code of the header is another than 01's");
 
+/* Where record and output end. */
 struct memory {
-    uint8_t *record, *out;
-    size_t record_page, out_page;
+    uint8_t *record_end, *out_end;
 };
 
 /* Of each code that the independent implementation gives: how often it was met, and how often the call differed. */
@@ -71,8 +71,8 @@ static void compare_one(struct generator *g, struct memory *memory, uint64_t one
 {
     struct drawn drawn = drawn_record(g, one_search_in);
     size_t room = below(g, 4) == 0 ? below(g, LONGEST_OUTPUT + 1) : NUMBER_BYTES + below(g, 13);
-    uint8_t *record = memory->record + memory->record_page - drawn.length;
-    uint8_t *out = memory->out + memory->out_page - room;
+    uint8_t *record = memory->record_end - drawn.length;
+    uint8_t *out = memory->out_end - room;
     uint8_t wanted[LONGEST_OUTPUT];
     memcpy(record, drawn.bytes, drawn.length);
     for (size_t k = 0; k < room; k++)
@@ -119,10 +119,11 @@ int main(int argc, char **argv)
     }
     struct generator g = { .state = strtoull(argv[1], NULL, 10) };
     uint64_t count = strtoull(argv[2], NULL, 10), one_search_in = strtoull(argv[3], NULL, 10);
-    struct memory memory = { 0 };
-    memory.record = guarded_page(&memory.record_page);
-    memory.out = guarded_page(&memory.out_page);
-    if (memory.record == NULL || memory.out == NULL) {
+    struct memory memory = {
+        .record_end = guarded_end(LONGEST_RECORD),
+        .out_end = guarded_end(LONGEST_OUTPUT),
+    };
+    if (memory.record_end == NULL || memory.out_end == NULL) {
         fprintf(stderr, "differential: no guarded memory\n");
         return 2;
     }

@@ -59,7 +59,8 @@ static double relative_error(const struct comparison *c, double x)
 {
     struct outcome outcome = c->function(x);
     long double right = c->library(x);
-    if (outcome.code != ANSWERED)
+    /* A NaN would be no greatest error. */
+    if (!is_answered(outcome))
         return INFINITY;
     if (right == 0)
         return outcome.value == 0 ? 0 : INFINITY;

@@ -1,6 +1,7 @@
 /* The random questions: the same from one seed, mostly permitted, meeting each code of a call. */
 #include "../generator.h"
-#include "../independent/refusals.h"
+#include "../independent/bits.h"
+#include "../independent/density.h"
 #include "check.h"
 
 enum { QUESTIONS = 5000, EACH_AT_LEAST = 10, CODES = 17 };
@@ -15,7 +16,7 @@ static struct met met_by(uint64_t call)
     struct generator g = generator_of(call, &call, 1);
     for (int i = 0; i < QUESTIONS; i++) {
         struct question question = next_question(&g);
-        met.of_code[answer_known(question.call, question.first, question.second).code]++;
+        met.of_code[answer_question(question.call, question.first, question.second).code]++;
     }
     return met;
 }
@@ -32,6 +33,14 @@ static void check_permitted(const struct call *call, const struct met *met)
                        + met->of_code[REFUSED_DENSITY];
     check(outside < QUESTIONS / 5, "%s: %u of %d random questions are not permitted", call->name,
           outside, QUESTIONS);
+}
+
+static void check_elementary_codes(const struct call *call)
+{
+    struct met met = met_by(call->number);
+    check_met(call, &met, ANSWERED);
+    check_met(call, &met, REFUSED_NOT_A_NUMBER);
+    check_met(call, &met, REFUSED_NOT_FINITE);
 }
 
 static void check_property_codes(const struct call *call)
@@ -61,6 +70,31 @@ static void check_estimate_codes(const struct call *call)
     check_met(call, &met, REFUSED_ABOVE_CRITICAL);
 }
 
+/* What is asked of a search, by the codes of its inputs: a search itself would take too long. */
+static void check_search_codes(const struct call *call)
+{
+    struct met met = { 0 };
+    struct generator g = generator_of(call->number, &call->number, 1);
+    for (int i = 0; i < QUESTIONS; i++) {
+        struct question question = next_question(&g);
+        double T = number_of(question.first), P = number_of(question.second);
+        met.of_code[plain_density(&r245ca, T, P, 0, BELOW).code]++;
+    }
+    check_permitted(call, &met);
+    /* No cell at all is refused after the inputs, and so stands for what would be searched. */
+    check_met(call, &met, REFUSED_TOP_CELL);
+    check_met(call, &met, REFUSED_NOT_A_NUMBER);
+    check_met(call, &met, REFUSED_TEMPERATURE);
+    check_met(call, &met, REFUSED_PRESSURE);
+}
+
+static void check_unknown_codes(void)
+{
+    struct met met = met_by(UNKNOWN_CALLS);
+    check(met.of_code[REFUSED_UNKNOWN] == QUESTIONS, "unknown calls: %u of %d random questions are",
+          met.of_code[REFUSED_UNKNOWN], QUESTIONS);
+}
+
 static bool same_question(struct question a, struct question b)
 {
     return a.call == b.call && a.first == b.first && a.second == b.second;
@@ -77,13 +111,27 @@ static void check_repeated(void)
     check(differing == 0, "from one seed %u of %d questions differ", differing, QUESTIONS);
 }
 
+static void check_codes(const struct call *call)
+{
+    switch (call->family) {
+    case ELEMENTARY:
+        check_elementary_codes(call);
+        break;
+    case PROPERTY:
+        check_property_codes(call);
+        break;
+    case ESTIMATE:
+        check_estimate_codes(call);
+        break;
+    default:
+        check_search_codes(call);
+    }
+}
+
 void check_generator(void)
 {
     check_repeated();
-    for (size_t i = 0; i < known_calls_count; i++) {
-        if (known_calls[i].family == PROPERTY)
-            check_property_codes(&known_calls[i]);
-        if (known_calls[i].family == ESTIMATE)
-            check_estimate_codes(&known_calls[i]);
-    }
+    check_unknown_codes();
+    for (size_t i = 0; i < known_calls_count; i++)
+        check_codes(&known_calls[i]);
 }

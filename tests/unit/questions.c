@@ -20,7 +20,7 @@ static bool gives(struct outcome wanted, struct answer answer)
 
 static struct answer asked(uint64_t call, double a, double b)
 {
-    return answer_known(call, bits_of(a), bits_of(b));
+    return answer_question(call, bits_of(a), bits_of(b));
 }
 
 static void check_elementary(void)
@@ -29,7 +29,7 @@ static void check_elementary(void)
     check(gives(ln_answer(2), asked(2, 2, NAN)), "call 2 is ln");
     check(gives(root_answer(2), asked(3, 2, NAN)), "call 3 is root");
     check(refuses(12, asked(1, 701, 0)), "a refusal has all bits set beside it");
-    check(refuses(2, answer_known(1, 0xfff4000000000001, 0)), "a NaN pattern is a NaN");
+    check(refuses(2, answer_question(1, 0xfff4000000000001, 0)), "a NaN pattern is a NaN");
 }
 
 static void check_properties(void)
@@ -63,26 +63,52 @@ static void check_searches(void)
     check(refuses(5, asked(33, 300, 0.5)), "call 33 at P 0.5 gets 5");
 }
 
-static void check_unknown(void)
+/* The probe's numbers, apart from the table that answers. */
+static const uint64_t numbers[] = { 1,  2,  3,  10, 11, 12, 13, 14, 15, 16,
+                                     17, 18, 20, 21, 22, 30, 31, 32, 33 };
+
+enum { NUMBERS = sizeof numbers / sizeof *numbers, SMALL_NUMBERS = 256 };
+
+static bool is_call(uint64_t number)
 {
-    static const uint64_t unknown[] = { 0, 4, 9, 19, 23, 29, 34, ((uint64_t)1 << 32) + 1 };
-    for (size_t i = 0; i < sizeof unknown / sizeof *unknown; i++)
-        check(refuses(14, answer_known(unknown[i], 0, 0))
-                  && refuses(14, answer_question(unknown[i], 0, 0)),
-              "call %llu is unknown", (unsigned long long)unknown[i]);
+    for (size_t i = 0; i < NUMBERS; i++)
+        if (numbers[i] == number)
+            return true;
+    return false;
 }
 
-/* Built or not, the two ways of asking differ only there. */
-static void check_built(void)
+static bool unknown(uint64_t number)
 {
-    for (size_t i = 0; i < known_calls_count; i++) {
-        uint64_t call = known_calls[i].number, T = bits_of(300), second = bits_of(2e5);
-        struct answer today = answer_question(call, T, second);
-        struct answer known = answer_known(call, T, second);
-        bool same = today.code == known.code && today.bits == known.bits;
-        check(built(call) ? same : refuses(14, today), "call %d, %s, is %s", (int)call,
-              known_calls[i].name, built(call) ? "built" : "not built");
-    }
+    return refuses(14, answer_question(number, bits_of(300), bits_of(1)));
+}
+
+static void check_known(void)
+{
+    for (size_t i = 0; i < NUMBERS; i++)
+        check(!unknown(numbers[i]), "call %d is known", (int)numbers[i]);
+    check(known_calls_count == NUMBERS, "%zu calls are known", known_calls_count);
+}
+
+static void check_unknown(void)
+{
+    static const uint64_t picked[] = {
+        0, 4, 9, 19, 23, 29, 34, ((uint64_t)1 << 32) + 1, UINT64_MAX,
+    };
+    for (size_t i = 0; i < sizeof picked / sizeof *picked; i++)
+        check(unknown(picked[i]), "call %llu is unknown", (unsigned long long)picked[i]);
+    unsigned others = 0, known = 0;
+    for (uint64_t number = 0; number < SMALL_NUMBERS; number++)
+        if (!is_call(number)) {
+            others++;
+            known += !unknown(number);
+        }
+    check(others == SMALL_NUMBERS - NUMBERS && known == 0,
+          "of %u other numbers below %d %u are known", others, SMALL_NUMBERS, known);
+    unsigned heeded = 0;
+    for (size_t i = 0; i < NUMBERS; i++)
+        for (int bit = 8; bit < 64; bit++)
+            heeded += !unknown(numbers[i] | (uint64_t)1 << bit);
+    check(heeded == 0, "a call's number with one higher bit is known %u times", heeded);
 }
 
 void check_questions(void)
@@ -90,6 +116,6 @@ void check_questions(void)
     check_elementary();
     check_properties();
     check_searches();
+    check_known();
     check_unknown();
-    check_built();
 }

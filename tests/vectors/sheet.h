@@ -4,7 +4,7 @@
 
 #include "../wire.h"
 
-/* 2,730 questions are what crates/vectors has room for. */
+/* 2,730 questions are what crates/test_vectors has room for. */
 enum { QUESTIONS_MOST = 2730 };
 
 struct sheet {

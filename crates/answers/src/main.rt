@@ -4,7 +4,6 @@
 // it does where the lines cannot be written.
 use libc::STDOUT_FILENO;
 ghost use mathlib.Core.Path.{_≡_};
-ghost use Prim.Native.Nat.{_≤_};
 ghost use lib.ListN.{length};
 
 // Room for 3,640 records, and for their lines.
@@ -34,7 +33,7 @@ fn block(fd: i32, first: u64) -> bool {
     let mut input = record_block();
     let mut out = line_block();
     let n = io::read_full(fd, &mut input);
-    let end = records::put_lines(&input[..n], first, &mut out);
+    let end = lines::put_lines(&input[..n], first, &mut out);
     let written = print(&out[..end]);
     if n < 65520 {
         return false;
@@ -65,7 +64,7 @@ fn tell_failure(fd: i32) {
 }
 
 fn main() {
-    let header = records::header();
+    let header = lines::header();
     if !print(&header) {
         return;
     }

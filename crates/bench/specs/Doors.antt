@@ -1,11 +1,18 @@
--- What the doors hand to C: a number for an answer or a search, and a total over a list of densities.
+-- What the doors take for a side, and what they hand to C: a number for an answer or a search, and a total over a list of
+-- densities.
+use mathlib.Core.Bool.{cond}
 use mathlib.Core.List.{List}
 use Prim.Native.Nat.{ℕ, zero, suc}
+use lib.Dec.{eqb}
 use lib.Ieee.{Float, nan, binary64, add}
-use lib.ListN.{getD}
+use lib.ListN.{length, getD}
 use Rattle.refusals.specs.declared.Answer.{Answer}
 use Rattle.refusals.specs.declared.Answer.the-variants.{Number, Refused}
 use Rattle.arithmetic.specs.Checked.{real}
+use Rattle.fluids.specs.R245ca.{r245ca}
+use Rattle.equation.specs.Kept.{keptOf, pressureAt}
+use Rattle.density.specs.declared.Side.{Side}
+use Rattle.density.specs.declared.Side.the-variants.{FromBelow, FromAbove}
 use Rattle.density.specs.declared.Found.{Found}
 use Rattle.density.specs.declared.Found.the-variants.{State}
 
@@ -15,11 +22,19 @@ numberOf (Number x) = x
 numberOf (Refused r) = nan
 
 -- the density that a search found, and `nan` where it is a refusal
-abbrev pub densityOf : Found → Float
-densityOf (State density word) = density
-densityOf (Found.Refused r) = nan
+abbrev pub foundDensity : Found → Float
+foundDensity (State density word) = density
+foundDensity (Found.Refused r) = nan
+
+-- 0 is from below, any other number from above
+abbrev pub sideOf : ℕ → Side
+sideOf n = cond (eqb n 0) FromBelow FromAbove
 
 -- the sum of f over the first i entries, from 0 and in their order
 unfoldable pub totalTo : (Float → Float) → List Float → ℕ → Float
 totalTo f xs zero = real 0
 totalTo f xs (suc i) = add binary64 (totalTo f xs i) (f (getD xs i nan))
+
+-- the sum of the pressures at the temperature t and each of the densities
+abbrev pub isothermOf : Float → List Float → Float
+isothermOf t densities = totalTo (pressureAt r245ca (keptOf r245ca t)) densities (length densities)

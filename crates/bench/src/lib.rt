@@ -1,51 +1,52 @@
-// The functions that bench/ times, behind C's calling convention.
-use arithmetic::exp;
-use arithmetic::ln;
-use arithmetic::root;
+// The functions that bench/ times and the tests call, behind C's calling convention.
 use density::Found;
 use density::Side;
 use density::plain;
-use density::prepare;
-use density::prepared_code;
 use density::quick;
-use equation::entropy;
-use equation::isobaric_heat_capacity;
+use elementary::ln;
+use elementary::root;
 use equation::keep;
-use equation::pressure;
 use equation::pressure_at;
-use equation::sound_speed;
+use exponentials::exp;
+use outcomes::found_code;
+use outcomes::found_word;
+use outcomes::prepared_code;
+use preparation::prepare;
+use properties::entropy;
+use properties::isobaric_heat_capacity;
+use properties::pressure;
+use properties::sound_speed;
 use refusals::Answer;
 ghost use mathlib.Core.Path.{_≡_};
-ghost use lib.ListN.{length};
-ghost use Rattle.arithmetic.specs.Exp.{expOf};
-ghost use Rattle.arithmetic.specs.Ln.{lnOf};
-ghost use Rattle.arithmetic.specs.Root.{rootOf};
+ghost use Rattle.exponentials.specs.Exp.{expOf};
+ghost use Rattle.elementary.specs.Ln.{lnOf};
+ghost use Rattle.elementary.specs.Root.{rootOf};
 ghost use Rattle.fluids.specs.R245ca.{r245ca};
-ghost use Rattle.equation.specs.Kept.{keptOf, pressureAt};
-ghost use Rattle.equation.specs.Calls.{pressureOf, entropyOf, isobaricOf, soundSpeedOf};
-ghost use Rattle.bench.specs.Doors.{numberOf, densityOf, totalTo};
-ghost use Rattle.density.specs.declared.Side.the-variants.{FromBelow, FromAbove};
-ghost use Rattle.density.specs.Calls.{plainOf, prepareOf, greatestAfter, leastAfter, quickOf};
-ghost use Rattle.density.specs.Codes.{preparedCodeOf};
+ghost use Rattle.properties.specs.Calls.{pressureOf, entropyOf, isobaricOf, soundSpeedOf};
+ghost use Rattle.density.specs.Calls.{plainOf, quickOf};
+ghost use Rattle.preparation.specs.Prepare.{prepareOf, greatestAfter, leastAfter};
+ghost use Rattle.outcomes.specs.Codes.{foundCodeOf, preparedCodeOf};
+ghost use Rattle.outcomes.specs.Parts.{foundWordOf};
+ghost use Rattle.bench.specs.Doors.{numberOf, foundDensity, sideOf, isothermOf};
 
 // ---- the elementary functions
 
 #[no_mangle]
-pub extern "C" fn verriblom_exp(x: f64) -> f64
+pub extern "C" fn bench_exp(x: f64) -> f64
     ensures { λ r. ⌜ r ≡ expOf x ⌝ }
 {
     exp(x)
 }
 
 #[no_mangle]
-pub extern "C" fn verriblom_ln(x: f64) -> f64
+pub extern "C" fn bench_ln(x: f64) -> f64
     ensures { λ r. ⌜ r ≡ lnOf x ⌝ }
 {
     ln(x)
 }
 
 #[no_mangle]
-pub extern "C" fn verriblom_root(x: f64) -> f64
+pub extern "C" fn bench_root(x: f64) -> f64
     ensures { λ r. ⌜ r ≡ rootOf x ⌝ }
 {
     root(x)
@@ -64,28 +65,28 @@ fn number(answer: Answer) -> f64
 }
 
 #[no_mangle]
-pub extern "C" fn verriblom_pressure(t: f64, rho: f64) -> f64
+pub extern "C" fn bench_pressure(t: f64, rho: f64) -> f64
     ensures { λ r. ⌜ r ≡ numberOf (pressureOf r245ca t rho) ⌝ }
 {
     number(pressure(t, rho))
 }
 
 #[no_mangle]
-pub extern "C" fn verriblom_entropy(t: f64, rho: f64) -> f64
+pub extern "C" fn bench_entropy(t: f64, rho: f64) -> f64
     ensures { λ r. ⌜ r ≡ numberOf (entropyOf r245ca t rho) ⌝ }
 {
     number(entropy(t, rho))
 }
 
 #[no_mangle]
-pub extern "C" fn verriblom_isobaric(t: f64, rho: f64) -> f64
+pub extern "C" fn bench_isobaric(t: f64, rho: f64) -> f64
     ensures { λ r. ⌜ r ≡ numberOf (isobaricOf r245ca t rho) ⌝ }
 {
     number(isobaric_heat_capacity(t, rho))
 }
 
 #[no_mangle]
-pub extern "C" fn verriblom_sound_speed(t: f64, rho: f64) -> f64
+pub extern "C" fn bench_sound_speed(t: f64, rho: f64) -> f64
     ensures { λ r. ⌜ r ≡ numberOf (soundSpeedOf r245ca t rho) ⌝ }
 {
     number(sound_speed(t, rho))
@@ -93,8 +94,8 @@ pub extern "C" fn verriblom_sound_speed(t: f64, rho: f64) -> f64
 
 // The sum of the pressures at T and each of the densities, with the temperature kept.
 #[no_mangle]
-pub extern "C" fn verriblom_isotherm(t: f64, densities: &[f64]) -> f64
-    ensures { λ r. ⌜ r ≡ totalTo (pressureAt r245ca (keptOf r245ca t)) (now (densities .entry)) (length (now (densities .entry))) ⌝ }
+pub extern "C" fn bench_isotherm(t: f64, densities: &[f64]) -> f64
+    ensures { λ r. ⌜ r ≡ isothermOf t (now (densities .entry)) ⌝ }
 {
     let kept = keep(t);
     let mut total = 0.0;
@@ -107,11 +108,11 @@ pub extern "C" fn verriblom_isotherm(t: f64, densities: &[f64]) -> f64
     total
 }
 
-// ---- the searches, with 1,664 cells
+// ---- the searches
 
 // The density that was found, and a NaN where it is a refusal.
 fn found_density(found: Found) -> f64
-    ensures { λ r. ⌜ r ≡ densityOf found ⌝ }
+    ensures { λ r. ⌜ r ≡ foundDensity found ⌝ }
 {
     match found {
         Found::State(rho, _) => rho,
@@ -119,33 +120,86 @@ fn found_density(found: Found) -> f64
     }
 }
 
-#[no_mangle]
-pub extern "C" fn verriblom_plain_below(t: f64, p: f64) -> f64
-    ensures { λ r. ⌜ r ≡ densityOf (plainOf t p 1664 FromBelow) ⌝ }
+// C has no `Side`: 0 is from below, any other number from above.
+fn side_of(n: u32) -> Side
+    ensures { λ r. ⌜ r ≡ sideOf n ⌝ }
 {
-    found_density(plain(t, p, 1664, Side::FromBelow))
+    if n == 0 {
+        Side::FromBelow
+    } else {
+        Side::FromAbove
+    }
 }
 
 #[no_mangle]
-pub extern "C" fn verriblom_plain_above(t: f64, p: f64) -> f64
-    ensures { λ r. ⌜ r ≡ densityOf (plainOf t p 1664 FromAbove) ⌝ }
+pub extern "C" fn bench_plain(t: f64, p: f64, c: usize, side: u32) -> f64
+    ensures { λ r. ⌜ r ≡ foundDensity (plainOf t p c (sideOf side)) ⌝ }
 {
-    found_density(plain(t, p, 1664, Side::FromAbove))
+    found_density(plain(t, p, c, side_of(side)))
+}
+
+#[no_mangle]
+pub extern "C" fn bench_plain_code(t: f64, p: f64, c: usize, side: u32) -> u32
+    ensures { λ r. ⌜ r ≡ foundCodeOf (plainOf t p c (sideOf side)) ⌝ }
+{
+    found_code(plain(t, p, c, side_of(side)))
+}
+
+#[no_mangle]
+pub extern "C" fn bench_plain_word(t: f64, p: f64, c: usize, side: u32) -> u64
+    ensures { λ r. ⌜ r ≡ foundWordOf (plainOf t p c (sideOf side)) ⌝ }
+{
+    found_word(plain(t, p, c, side_of(side)))
 }
 
 // 0 where the lists are ready, else the refusal's number.
 #[no_mangle]
-pub extern "C" fn verriblom_prepare(t: f64, greatest: &mut [f64], least: &mut [f64]) -> u32
-    ensures { λ r. ⌜ (r ≡ preparedCodeOf (prepareOf t 1664 (now (greatest .entry)) (now (least .entry))))
-        × (now (greatest .exit) ≡ greatestAfter t 1664 (now (greatest .entry)) (now (least .entry)))
-        × (now (least .exit) ≡ leastAfter t 1664 (now (greatest .entry)) (now (least .entry))) ⌝ }
+pub extern "C" fn bench_prepare(t: f64, c: usize, greatest: &mut [f64], least: &mut [f64]) -> u32
+    ensures { λ r. ⌜ (r ≡ preparedCodeOf (prepareOf t c (now (greatest .entry)) (now (least .entry))))
+        × (now (greatest .exit) ≡ greatestAfter t c (now (greatest .entry)) (now (least .entry)))
+        × (now (least .exit) ≡ leastAfter t c (now (greatest .entry)) (now (least .entry))) ⌝ }
 {
-    prepared_code(prepare(t, 1664, greatest, least))
+    prepared_code(prepare(t, c, greatest, least))
 }
 
 #[no_mangle]
-pub extern "C" fn verriblom_quick(t: f64, p: f64, greatest: &[f64], least: &[f64]) -> f64
-    ensures { λ r. ⌜ r ≡ densityOf (quickOf t p 1664 FromBelow (now (greatest .entry)) (now (least .entry))) ⌝ }
+pub extern "C" fn bench_quick(
+    t: f64,
+    p: f64,
+    c: usize,
+    side: u32,
+    greatest: &[f64],
+    least: &[f64],
+) -> f64
+    ensures { λ r. ⌜ r ≡ foundDensity (quickOf t p c (sideOf side) (now (greatest .entry)) (now (least .entry))) ⌝ }
 {
-    found_density(quick(t, p, 1664, Side::FromBelow, greatest, least))
+    found_density(quick(t, p, c, side_of(side), greatest, least))
+}
+
+#[no_mangle]
+pub extern "C" fn bench_quick_code(
+    t: f64,
+    p: f64,
+    c: usize,
+    side: u32,
+    greatest: &[f64],
+    least: &[f64],
+) -> u32
+    ensures { λ r. ⌜ r ≡ foundCodeOf (quickOf t p c (sideOf side) (now (greatest .entry)) (now (least .entry))) ⌝ }
+{
+    found_code(quick(t, p, c, side_of(side), greatest, least))
+}
+
+#[no_mangle]
+pub extern "C" fn bench_quick_word(
+    t: f64,
+    p: f64,
+    c: usize,
+    side: u32,
+    greatest: &[f64],
+    least: &[f64],
+) -> u64
+    ensures { λ r. ⌜ r ≡ foundWordOf (quickOf t p c (sideOf side) (now (greatest .entry)) (now (least .entry))) ⌝ }
+{
+    found_word(quick(t, p, c, side_of(side), greatest, least))
 }

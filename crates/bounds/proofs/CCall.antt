@@ -3,7 +3,7 @@
 use mathlib.Core.Path.{_≡_, refl, ap, subst}
 use mathlib.Core.Logic.{inl, inr}
 use mathlib.Core.List.{List, [], _∷_}
-use mathlib.Core.Bool.{Bool, true, false, cond, _&&_}
+use mathlib.Core.Bool.{Bool, true, false, cond}
 use Prim.Native.Nat.{ℕ, _<_}
 use native.Mathlib.Omega.{arith}
 use borrow.Author.Tests.{ltb-true}
@@ -11,44 +11,40 @@ use lib.Dec.{T, eqb, leb, ltb}
 use lib.ListN.{length}
 use lib.Ieee.{Float}
 use lib.Ieee.Fits.{and-l, and-r}
-use lib.Ieee.Scale.{finite}
 use Rattle.refusals.specs.declared.Refusal.{Refusal}
-use Rattle.refusals.specs.declared.Refusal.the-variants.{NoReading, InputNotFinite, TemperatureOutside, DensityOutside, PressureOutside, TooShort, UnknownMark, CutShort}
+use Rattle.refusals.specs.declared.Refusal.the-variants.{NoReading, TooShort, UnknownMark, CutShort}
 use Rattle.refusals.specs.declared.Permit.{Permit}
 use Rattle.refusals.specs.declared.Permit.the-variants.{Granted, Denied}
 use Rattle.refusals.specs.declared.Answer.{Answer}
 use Rattle.refusals.specs.declared.Answer.the-variants.{Number}
 use Rattle.refusals.specs.Code.{codeOf, answerCodeOf}
-use Rattle.refusals.specs.Order.{permitted}
-use Rattle.arithmetic.specs.Checked.{between}
+use Rattle.refusals.specs.Order.{testedOf, permitted}
 use Rattle.fluids.specs.R245ca.{r245ca}
 use Rattle.fluids.proofs.Sound.{every}
-use Rattle.equation.specs.Calls.{statePermit}
-use Rattle.density.specs.declared.Side.{Side}
-use Rattle.density.specs.Inputs.{temperaturePermittedOf, pressurePermittedOf, topPermittedOf, firstRefusalOf, searchInputsOf}
 use Rattle.records.specs.declared.Mark.{Mark}
 use Rattle.records.specs.declared.Mark.the-variants.{TD, TB, TA, TP, TN, Unknown}
 use Rattle.records.specs.declared.Reading.{Reading}
 use Rattle.records.specs.declared.Reading.the-variants.{State, Search}
-use Rattle.density.specs.Codes.{foundAnswerOf}
-use Rattle.records.specs.Record.{densityOf, workOf, askedBy, markOf, readingOf}
-use Rattle.records.specs.Call.{numbersPermit, inputsOf, withRoom, permitOf, callOf, callCode}
-use Rattle.bounds.specs.NoAnswer.{OneOf}
+use Rattle.outcomes.specs.Codes.{foundAnswerOf}
+use Rattle.records.specs.Record.{densityAt, workOf, askedBy, markOf, readingOf}
+use Rattle.records.specs.Call.{inputsOf, permitOf, callOf, callCode}
+use Rattle.refusals.specs.Code.{OneOf}
+use Rattle.inputs.specs.Inputs.{topTest, stateTests, askedTests, statePermit, askedPermit, searchPermit}
 use Rattle.bounds.specs.Records.{RecordCalls}
-use Rattle.bounds.proofs.Fractions.{is-true}
-use Rattle.bounds.proofs.R245ca.{r245ca-passes}
+use Rattle.intervals.proofs.Fractions.{is-true}
+use Rattle.ranges.proofs.R245ca.{r245ca-passes}
 use Rattle.bounds.proofs.NeverTwelve.{pressure-answered}
 use Rattle.bounds.proofs.Searches.{every-question-answered}
-use Rattle.bounds.proofs.Codes.{denied-code, by-permit}
+use Rattle.refusals.proofs.InOrder.{denied-code, by-permit}
 
 -- ---- permitted numbers are those that the calls permit
-state-permitted : (t ρ : Float) → inputsOf (State t ρ) ≡ Granted → statePermit r245ca t ρ ≡ Granted
-unfolding numbersPermit statePermit
-state-permitted t ρ ok = ok
+top-permitted : topTest r245ca 1664 .0 ≡ true
+unfolding r245ca
+top-permitted = refl
 
-search-permitted : (t P : Float) (side : Side) → inputsOf (Search t P side) ≡ Granted → searchInputsOf t P 1664 true ≡ Granted
-unfolding numbersPermit searchInputsOf firstRefusalOf temperaturePermittedOf pressurePermittedOf topPermittedOf r245ca
-search-permitted t P side ok = ok
+search-permitted : (t P : Float) → askedPermit r245ca t P ≡ Granted → searchPermit r245ca t P 1664 true ≡ Granted
+unfolding askedPermit searchPermit
+search-permitted t P ok = simp top-permitted ok
 
 -- ---- so the work has a number
 Answered : Answer → Type 0
@@ -56,10 +52,10 @@ Answered a = (x : Float) × (a ≡ Number x)
 
 work-answered : (asked : Reading) → inputsOf asked ≡ Granted → Answered (workOf asked)
 unfolding Answered
-work-answered (State t ρ) ok = (_, pressure-answered r245ca r245ca-passes t ρ (state-permitted t ρ ok))
+work-answered (State t ρ) ok = (_, pressure-answered r245ca r245ca-passes t ρ ok)
 work-answered (Search t P side) ok =
-    let (density, word, e) = every-question-answered t P side (search-permitted t P side ok) in
-    (density, unfold densityOf in ap foundAnswerOf e)
+    let (density, word, e) = every-question-answered t P side (search-permitted t P ok) in
+    (density, unfold densityAt in ap foundAnswerOf e)
 work-answered (Reading.Refused r) ok = let z : _≡_ {A = ℕ} 0 1 = cc in absurd (omega arith)
 
 -- ---- the refusals that a record's permit can deny with
@@ -72,20 +68,19 @@ Listed p = (r : Refusal) → p ≡ Denied r → OneOf (codeOf r) refusalCodes
 one-listed : (e : Refusal) → OneOf (codeOf e) refusalCodes → Listed (Denied e)
 one-listed e h r d = let same : e ≡ r = cc in subst (λ (x : Refusal). OneOf (codeOf x) refusalCodes) same h
 
-numbers-listed : (t x least greatest : Float) (e : Refusal) → OneOf (codeOf e) refusalCodes → Listed (numbersPermit t x least greatest e)
-unfolding numbersPermit
-numbers-listed t x least greatest e h =
-    denied-code refusalCodes
-    ((finite t && finite x, InputNotFinite)
-    ∷ (between (r245ca .leastT) t (r245ca .greatestT), TemperatureOutside)
-    ∷ (between least x greatest, e)
-    ∷ []) (inr (inl refl), (inr (inr (inl refl)), (h, tt)))
+state-listed : (t ρ : Float) → Listed (statePermit r245ca t ρ)
+unfolding statePermit
+state-listed t ρ = denied-code refusalCodes (stateTests r245ca t ρ) tt
+
+asked-listed : (t P : Float) → Listed (askedPermit r245ca t P)
+unfolding askedPermit
+asked-listed t P = denied-code refusalCodes (askedTests r245ca t P) tt
 
 marked-listed : (mark : Mark) (s : List ℕ) → Listed (inputsOf (askedBy mark s))
-marked-listed TD s = numbers-listed _ _ _ _ DensityOutside (inr (inr (inr (inl refl))))
-marked-listed TB s = numbers-listed _ _ _ _ PressureOutside (inr (inr (inr (inr (inl refl)))))
-marked-listed TA s = numbers-listed _ _ _ _ PressureOutside (inr (inr (inr (inr (inl refl)))))
-marked-listed TP s = numbers-listed _ _ _ _ PressureOutside (inr (inr (inr (inr (inl refl)))))
+marked-listed TD s = state-listed _ _
+marked-listed TB s = asked-listed _ _
+marked-listed TA s = asked-listed _ _
+marked-listed TP s = asked-listed _ _
 marked-listed TN s = one-listed NoReading (inl refl)
 marked-listed Unknown s = one-listed UnknownMark (inr (inr (inr (inr (inr (inr (inl refl)))))))
 
@@ -97,12 +92,12 @@ reading-listed s = go (eqb (length s) 18)
     go true = marked-listed (markOf s) s
     go false = one-listed CutShort (inr (inr (inr (inr (inr (inr (inr (inl refl))))))))
 
-room-listed : (p : Permit) (room : ℕ) → Listed p → Listed (withRoom p room)
-room-listed Granted room ok = denied-code refusalCodes ((leb 8 room, TooShort) ∷ []) (inr (inr (inr (inr (inr (inl refl))))), tt)
+room-listed : (p : Permit) (room : ℕ) → Listed p → Listed (testedOf p (leb 8 room) TooShort)
+room-listed Granted room ok = denied-code refusalCodes ((leb 8 room, TooShort) ∷ []) tt
 room-listed (Denied r) room ok = ok
 
 -- the room is asked for after the inputs
-inputs-granted : (p : Permit) (room : ℕ) → withRoom p room ≡ Granted → p ≡ Granted
+inputs-granted : (p : Permit) (room : ℕ) → testedOf p (leb 8 room) TooShort ≡ Granted → p ≡ Granted
 inputs-granted Granted room ok = refl
 inputs-granted (Denied r) room ok = let z : _≡_ {A = ℕ} 0 1 = cc in absurd (omega arith)
 

@@ -7,9 +7,10 @@ use Rattle.refusals.specs.declared.Refusal.the-variants.{WorkNotFinite}
 use Rattle.refusals.specs.declared.Permit.the-variants.{Granted}
 use Rattle.refusals.specs.declared.Answer.the-variants.{Number, Refused}
 use Rattle.fluids.specs.Fluid.{Fluid}
-use Rattle.equation.specs.Values.{pressureValue, energyValue, enthalpyValue, isochoricValue}
-use Rattle.equation.specs.Calls.{workedDensity, statePermit, pressureOf, energyOf, enthalpyOf, isochoricOf}
-use Rattle.bounds.proofs.Entry.{passes, Finite, finite-in-range}
+use Rattle.values.specs.Values.{pressureValue, energyValue, enthalpyValue, isochoricValue}
+use Rattle.properties.specs.Calls.{workedDensity, pressureOf, energyOf, enthalpyOf, isochoricOf}
+use Rattle.inputs.specs.Inputs.{statePermit}
+use Rattle.ranges.proofs.Entry.{passes, Finite, finite-in-range}
 use Rattle.bounds.proofs.Permits.{never-12, answered, state-denied, state-granted, worked-in-range}
 
 module _ (F : Fluid) (ok : T (passes F)) (t ρ : Float) where

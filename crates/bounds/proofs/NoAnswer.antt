@@ -3,12 +3,12 @@ use Rattle.fluids.specs.R245ca.{r245ca}
 use Rattle.density.proofs.NeverNine.{plain-never-nine, plain-never-sixteen, quick-call-never-nine}
 use Rattle.density.proofs.QuickIsPlain.{never-sixteen}
 use Rattle.bounds.specs.NoAnswer.{ElementaryCalls, PropertyCalls, EstimateCalls, SearchCalls}
-use Rattle.bounds.proofs.R245ca.{r245ca-passes, r245ca-estimate-ends, r245ca-estimates}
-use Rattle.bounds.proofs.Elementary.{exponential-12, logarithm-12, square-root-12}
+use Rattle.ranges.proofs.R245ca.{r245ca-passes, r245ca-estimate-ends, r245ca-estimates}
+use Rattle.intervals.proofs.Elementary.{exponential-12, logarithm-12, square-root-12}
 use Rattle.bounds.proofs.NeverTwelve.{pressure-never-12, energy-never-12, enthalpy-never-12, isochoric-never-12}
 use Rattle.bounds.proofs.Potentials.{entropy-12, gibbs-12, helmholtz-12}
 use Rattle.bounds.proofs.Stable.{sound-speed-12, isobaric-12}
-use Rattle.bounds.proofs.Estimates.{saturation-pressure-never-12, saturated-liquid-never-12, saturated-vapour-never-12}
+use Rattle.bounds.proofs.Estimated.{saturation-pressure-never-12, saturated-liquid-never-12, saturated-vapour-never-12}
 use Rattle.bounds.proofs.Searches.{prepared-always, eight-from-below, eight-from-above, only-eight, plain-never-12, quick-never-12, plain-encloses, every-question-answered}
 
 pub elementary-calls : ElementaryCalls

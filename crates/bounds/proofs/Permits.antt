@@ -1,63 +1,42 @@
 -- What a granted permit says of a state, and that no permit of the inputs denies with 12.
 use mathlib.Core.Path.{_≡_, refl, sym, subst}
-use mathlib.Core.Bool.{Bool, true, false, not, cond, _&&_}
-use mathlib.Core.List.{List, [], _∷_}
+use mathlib.Core.Bool.{Bool, true, false, cond, _&&_}
+use mathlib.Core.List.{[], _∷_}
 use Prim.Native.Nat.{ℕ}
 use native.Mathlib.Omega.{arith}
-use lib.Dec.{T, eqb, eqb-refl}
+use lib.Dec.{T}
 use lib.Ieee.{Float, nan, inf, fin, le, lt, eq, ofInt, round}
 use lib.Ieee.Fits.{and-i, and-l, and-r}
 use lib.Ieee.Scale.{finite}
 use Rattle.refusals.specs.declared.Refusal.{Refusal}
-use Rattle.refusals.specs.declared.Refusal.the-variants.{InputNotFinite, TemperatureOutside, DensityOutside, AtZeroDensity, WorkNotFinite}
+use Rattle.refusals.specs.declared.Refusal.the-variants.{InputNotFinite, TemperatureOutside, DensityOutside, WorkNotFinite}
 use Rattle.refusals.specs.declared.Permit.{Permit}
 use Rattle.refusals.specs.declared.Permit.the-variants.{Granted, Denied}
 use Rattle.refusals.specs.declared.Answer.the-variants.{Number, Refused}
-use Rattle.refusals.specs.Code.{codeOf}
 use Rattle.refusals.specs.Order.{firstOf, permitted}
 use Rattle.refusals.proofs.Needed.{test-passed, rest-granted, permitted-granted}
 use Rattle.arithmetic.specs.Checked.{real, between}
-use Rattle.arithmetic.specs.Calls.{outcomeOf}
-use Rattle.arithmetic.proofs.Answered.{outcome-finite}
+use Rattle.refusals.proofs.InOrder.{never-denied}
+use Rattle.arithmetic.specs.Answered.{answerFrom}
+use Rattle.arithmetic.proofs.Answered.{answer-from-finite}
 use Rattle.arithmetic.proofs.Order.{le-trans}
 use Rattle.fluids.specs.Fluid.{Fluid}
-use Rattle.fluids.proofs.Sound.{every}
-use Rattle.equation.specs.Calls.{workedDensity, stateTests, statePermit, potentialPermit}
-use Rattle.bounds.proofs.Fractions.{holds, is-true}
+use Rattle.properties.specs.Calls.{workedDensity}
+use Rattle.inputs.specs.Inputs.{stateTests, potentialTests, statePermit, potentialPermit}
+use Rattle.intervals.proofs.Fractions.{holds, is-true}
 
--- ---- a permit denies with none but its tests' refusals
-abbrev otherThan : Refusal → Bool × Refusal → Bool
-otherThan e test = not (eqb (codeOf (test .1)) (codeOf e))
-
-not-itself : (n : ℕ) → T (not (eqb n n)) → ⊥
-not-itself n t = go (eqb n n) (eqb-refl n) t
-  where
-    go : (b : Bool) → T b → T (not b) → ⊥
-    go true t u = u
-    go false t u = t
-
-pub never-denied : (e : Refusal) (tests : List (Bool × Refusal)) → T (every (otherThan e) tests) → firstOf tests ≡ Denied e → ⊥
-never-denied e [] ok d = let z : _≡_ {A = ℕ} 0 1 = cc in omega arith
-never-denied e (x ∷ xs) ok d = go (x .0) (never-denied e xs (and-r (otherThan e x) (every (otherThan e) xs) ok)) d
-  where
-    go : (b : Bool) → (firstOf xs ≡ Denied e → ⊥) → cond b (firstOf xs) (Denied (x .1)) ≡ Denied e → ⊥
-    go true later d = later d
-    go false later d =
-        let same : x .1 ≡ e = cc in
-        not-itself (codeOf e) (subst (λ (r : Refusal). T (not (eqb (codeOf r) (codeOf e)))) same (and-l (otherThan e x) (every (otherThan e) xs) ok))
-
--- ---- so an answer is 12 only where the permit is granted and the value is not finite
-pub refused-granted : (p : Permit) (v : Float) → (p ≡ Denied WorkNotFinite → ⊥) → permitted p (outcomeOf v) ≡ Refused WorkNotFinite → (p ≡ Granted) × (finite v ≡ false)
+-- ---- an answer is 12 only where the permit is granted and the value is not finite
+pub refused-granted : (p : Permit) (v : Float) → (p ≡ Denied WorkNotFinite → ⊥) → permitted p (answerFrom v) ≡ Refused WorkNotFinite → (p ≡ Granted) × (finite v ≡ false)
 refused-granted Granted nan n e = (refl, refl)
 refused-granted Granted (inf s) n e = (refl, refl)
 refused-granted Granted (fin s m d) n e = let z : _≡_ {A = ℕ} 0 1 = cc in absurd (omega arith)
 refused-granted (Denied r) v n e = let same : r ≡ WorkNotFinite = cc in absurd (n (subst (λ (x : Refusal). Denied x ≡ Denied WorkNotFinite) (sym same) refl))
 
-pub answered : (p : Permit) (v : Float) → p ≡ Granted → T (finite v) → permitted p (outcomeOf v) ≡ Number v
-answered p v g f = rw (permitted-granted p (outcomeOf v) g) (outcome-finite v (is-true (finite v) f))
+pub answered : (p : Permit) (v : Float) → p ≡ Granted → T (finite v) → permitted p (answerFrom v) ≡ Number v
+answered p v g f = rw (permitted-granted p (answerFrom v) g) (answer-from-finite v (is-true (finite v) f))
 
 -- a value that is finite wherever the permit is granted is never 12
-pub never-12 : (p : Permit) (v : Float) → (p ≡ Denied WorkNotFinite → ⊥) → (p ≡ Granted → T (finite v)) → permitted p (outcomeOf v) ≡ Refused WorkNotFinite → ⊥
+pub never-12 : (p : Permit) (v : Float) → (p ≡ Denied WorkNotFinite → ⊥) → (p ≡ Granted → T (finite v)) → permitted p (answerFrom v) ≡ Refused WorkNotFinite → ⊥
 never-12 p v n f e = let (g, b) = refused-granted p v n e in subst T b (f g)
 
 -- ---- a permitted state
@@ -68,7 +47,7 @@ module _ (F : Fluid) (t ρ : Float) where
 
   pub potential-denied : potentialPermit F t ρ ≡ Denied WorkNotFinite → ⊥
   unfolding potentialPermit
-  potential-denied e = never-denied WorkNotFinite ((finite t && finite ρ, InputNotFinite) ∷ (between (F .leastT) t (F .greatestT), TemperatureOutside) ∷ (between (real 0) ρ (F .greatestρ), DensityOutside) ∷ (not (eq ρ (real 0)), AtZeroDensity) ∷ []) tt e
+  potential-denied = never-denied WorkNotFinite (potentialTests F t ρ) tt
 
   pub state-granted : statePermit F t ρ ≡ Granted → T (between (F .leastT) t (F .greatestT)) × T (between (real 0) ρ (F .greatestρ))
   unfolding statePermit

@@ -16,20 +16,21 @@ use Rattle.refusals.specs.declared.Answer.the-variants.{Refused}
 use Rattle.refusals.specs.Order.{firstOf, permitted}
 use Rattle.refusals.proofs.Needed.{test-passed, also, first-of-both, permitted-granted}
 use Rattle.arithmetic.specs.Checked.{real, two⁻, _⊕_, _⊖_}
-use Rattle.arithmetic.specs.Ln.{lnOf}
-use Rattle.arithmetic.specs.Calls.{outcomeOf}
+use Rattle.elementary.specs.Ln.{lnOf}
+use Rattle.arithmetic.specs.Answered.{answerFrom}
 use Rattle.arithmetic.proofs.Operations.{nan-⊕, nan-⊖}
 use Rattle.arithmetic.proofs.Zeros.{times-nan, plus-nan}
 use Rattle.arithmetic.proofs.Order.{lt-of-not-le, not-le-of-lt}
 use Rattle.fluids.specs.Fluid.{Fluid}
-use Rattle.equation.specs.Ideal.{I0}
-use Rattle.equation.specs.Values.{δ, i0, entropyValue, gibbsValue, helmholtzValue}
-use Rattle.equation.specs.Calls.{workedDensity, stateTests, statePermit, potentialPermit, entropyOf, gibbsOf, helmholtzOf}
-use Rattle.search.proofs.Tests.{by}
-use Rattle.bounds.proofs.Fractions.{holds}
+use Rattle.ideal.specs.Ideal.{I0}
+use Rattle.values.specs.Values.{δ, i0, entropyValue, gibbsValue, helmholtzValue}
+use Rattle.properties.specs.Calls.{workedDensity, entropyOf, gibbsOf, helmholtzOf}
+use Rattle.inputs.specs.Inputs.{stateTests, statePermit, potentialPermit}
+use Rattle.refusals.proofs.Tests.{by}
+use Rattle.intervals.proofs.Fractions.{holds}
 use Rattle.bounds.specs.NoAnswer.{SmallDensity}
-use Rattle.bounds.proofs.Entry.{passes, Finite}
-use Rattle.bounds.proofs.Elementary.{ln-outside}
+use Rattle.ranges.proofs.Entry.{passes, Finite}
+use Rattle.intervals.proofs.Elementary.{ln-outside}
 use Rattle.bounds.proofs.Permits.{refused-granted, potential-denied}
 use Rattle.bounds.proofs.NeverTwelve.{finite-where-granted}
 
@@ -96,7 +97,7 @@ module _ (F : Fluid) (ok : T (passes F)) (t ρ : Float) where
   in-range g = subst (Finite F t) (worked-itself F t ρ g) (finite-where-granted F ok t ρ (both F t ρ g .0))
 
   exactly : (v : Float → Float) → (potentialPermit F t ρ ≡ Granted → T (le (two⁻ 60) (δ F t ρ)) → T (finite (v ρ))) → (le (two⁻ 60) (δ F t ρ) ≡ false → v ρ ≡ nan)
-      → (permitted (potentialPermit F t ρ) (outcomeOf (v (workedDensity ρ))) ≡ Refused WorkNotFinite) ↔ SmallDensity F t ρ
+      → (permitted (potentialPermit F t ρ) (answerFrom (v (workedDensity ρ))) ≡ Refused WorkNotFinite) ↔ SmallDensity F t ρ
   exactly v number none = (
     (λ r.
         let (g, not-finite) = refused-granted (potentialPermit F t ρ) (v (workedDensity ρ)) (potential-denied F t ρ) r in (
@@ -106,8 +107,8 @@ module _ (F : Fluid) (ok : T (passes F)) (t ρ : Float) where
               (λ small. lt-of-not-le (two⁻ 60) (δ F t ρ) tiny-number (finite-number (δ F t ρ) (in-range g .reduced)) small),
         )),
     (λ (g, small).
-        permitted-granted (potentialPermit F t ρ) (outcomeOf (v (workedDensity ρ))) g
-        ∙ ap outcomeOf (ap v (worked-itself F t ρ g)
+        permitted-granted (potentialPermit F t ρ) (answerFrom (v (workedDensity ρ))) g
+        ∙ ap answerFrom (ap v (worked-itself F t ρ g)
         ∙ none (not-le-of-lt (two⁻ 60) (δ F t ρ) tiny-number (finite-number (δ F t ρ) (in-range g .reduced)) small))),
   )
 

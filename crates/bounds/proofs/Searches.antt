@@ -3,8 +3,8 @@
 -- across P, and then with 8, its answers enclose P, and no search meets 12.
 use mathlib.Core.Path.{_≡_, refl, ap, _∙_}
 use mathlib.Core.Logic.{_↔_}
-use mathlib.Core.List.{List, [], _∷_}
-use mathlib.Core.Bool.{Bool, true, false, not, _&&_}
+use mathlib.Core.List.{List}
+use mathlib.Core.Bool.{Bool, true, false, not}
 use Prim.Native.Nat.{ℕ, _^_, _≤_}
 use native.Mathlib.Omega.{arith}
 use borrow.Author.Tests.{leb-true}
@@ -16,7 +16,7 @@ use lib.Ieee.Exact.{HasValue}
 use lib.Ieee.Order.{le-of-values}
 use lib.Ieee.Scale.{finite}
 use Rattle.refusals.specs.declared.Refusal.{Refusal}
-use Rattle.refusals.specs.declared.Refusal.the-variants.{InputNotFinite, TemperatureOutside, PressureOutside, TopOutside, TooShort, NoCell, WorkNotFinite}
+use Rattle.refusals.specs.declared.Refusal.the-variants.{NoCell, WorkNotFinite}
 use Rattle.refusals.specs.declared.Permit.{Permit}
 use Rattle.refusals.specs.declared.Permit.the-variants.{Granted, Denied}
 use Rattle.arithmetic.specs.Checked.{real, between}
@@ -24,37 +24,42 @@ use Rattle.arithmetic.proofs.Order.{le-of-not-lt, not-le-of-lt, le-lt-trans}
 use Rattle.fluids.specs.R245ca.{r245ca}
 use Rattle.fluids.proofs.Limits.{r245ca-cells}
 use Rattle.equation.specs.Kept.{keptOf}
-use Rattle.equation.specs.Values.{pressureValue}
-use Rattle.search.specs.declared.Place.{Place}
+use Rattle.values.specs.Values.{pressureValue}
+use Rattle.search.specs.declared.Located.{Located}
 use Rattle.search.specs.Plain.{endStep, atEnds}
 use Rattle.search.proofs.GreatestAndLeast.{Numbers}
-use Rattle.search.proofs.ExactlyEight.{NoCellEncloses}
+use Rattle.search.specs.Enclosed.{NoCellEncloses}
 use Rattle.search.proofs.ExactlyEight as any
-use Rattle.search.proofs.Tests.{clash, and-passed}
+use Rattle.refusals.proofs.Tests.{clash, and-passed}
 use Rattle.density.specs.declared.Side.{Side}
 use Rattle.density.specs.declared.Side.the-variants.{FromBelow, FromAbove}
 use Rattle.density.specs.declared.Word.{Word}
 use Rattle.density.specs.declared.Found.{Found}
 use Rattle.density.specs.declared.Found.the-variants.{State}
-use Rattle.density.specs.declared.Prepared.{Prepared}
-use Rattle.density.specs.declared.Prepared.the-variants.{Ready}
-use Rattle.density.specs.Inputs.{temperaturePermittedOf, pressurePermittedOf, topPermittedOf, roomOf, firstRefusalOf, searchInputsOf, prepareInputsOf}
+use Rattle.preparation.specs.declared.Prepared.{Prepared}
+use Rattle.preparation.specs.declared.Prepared.the-variants.{Ready}
+use Rattle.inputs.specs.Inputs.{temperatureTest, topTest, roomOf, prepareTests, searchTests, searchPermit, preparePermit}
 use Rattle.density.specs.Granted.{Question}
 use Rattle.density.specs.State.{stateWordOf, foundStateOf}
-use Rattle.density.specs.Steps.{stepDensityOf, stepPressureOf}
-use Rattle.density.specs.Calls.{pressuresOf, plainStepOf, searched, plainOf, entriesBy, quickStepOf, prepareOf, quickOf}
-use Rattle.density.proofs.StepExact.{step-exact}
-use Rattle.density.proofs.Permitted.{Passed, search-passed, question, prepare-passed}
+use Rattle.steps.specs.Steps.{stepDensityOf, stepPressureOf}
+use Rattle.steps.specs.Steps.{pressuresOf}
+use Rattle.density.specs.Calls.{plainStepOf, searched, plainOf, entriesBy, quickOf}
+use Rattle.search.specs.Searches.{quickStep}
+use Rattle.preparation.specs.Prepare.{prepareOf}
+use Rattle.steps.proofs.StepExact.{step-exact}
+use Rattle.inputs.proofs.Passed.{search-passed, prepare-passed}
+use Rattle.density.proofs.Permitted.{question}
 use Rattle.density.proofs.NeverNine.{state-refuses, searched-refuses}
-use Rattle.density.proofs.Twelve.{gives-twelve-is-not-finite}
-use Rattle.density.proofs.Encloses.{Answers, plain-from-below-encloses, plain-from-above-encloses}
+use Rattle.steps.proofs.Twelve.{gives-twelve-is-not-finite}
+use Rattle.density.specs.Answers.{Answers}
+use Rattle.density.proofs.Encloses.{plain-from-below-encloses, plain-from-above-encloses}
 use Rattle.density.proofs.ExactlyEight.{refuses-exactly}
-use Rattle.density.proofs.PreparationFails.{fails-with-twelve, fails-exactly}
-use Rattle.bounds.proofs.Fractions.{holds, is-true}
-use Rattle.bounds.proofs.Entry.{temperature-finite, finite-in-range}
-use Rattle.bounds.proofs.Permits.{never-denied}
-use Rattle.bounds.proofs.R245ca.{r245ca-passes, r245ca-rises}
-use Rattle.bounds.proofs.AmongNumbers.{HasStep, below-found, above-found, above-refuses, above-refuses-exactly, quick-not-12}
+use Rattle.preparation.proofs.PreparationFails.{fails-with-twelve, fails-exactly}
+use Rattle.intervals.proofs.Fractions.{holds, is-true}
+use Rattle.ranges.proofs.Entry.{temperature-finite, finite-in-range}
+use Rattle.refusals.proofs.InOrder.{AllPassed, never-denied}
+use Rattle.ranges.proofs.R245ca.{r245ca-passes, r245ca-rises}
+use Rattle.search.proofs.AmongNumbers.{HasStep, below-found, above-found, above-refuses, above-refuses-exactly, quick-not-12}
 
 -- ---- a step's density is in the range
 -- 1,664 cells of 2²³ steps of 2⁻³⁰ are 13 mol/dm³
@@ -67,9 +72,9 @@ step-in-range k h =
     (le-of-values (stepDensityOf k) (real 13) k (2 ^ 30) 13 1 (lit< tt) (lit< tt) v (refl, refl) (omega arith))
 
 -- ---- so its pressure is a number
-module _ (t : Float) (ok : temperaturePermittedOf t ≡ true) where
+module _ (t : Float) (ok : temperatureTest r245ca t .0 ≡ true) where
   pub step-finite : (k : ℕ) → k ≤ endStep 1664 → T (finite (pressuresOf t k))
-  unfolding temperaturePermittedOf stepPressureOf
+  unfolding stepPressureOf
   step-finite k h =
       unfold pressureValue in
       finite-in-range r245ca r245ca-passes t (stepDensityOf k) (holds (between (r245ca .leastT) t (r245ca .greatestT)) ok) (step-in-range k h) .pressure
@@ -81,25 +86,24 @@ module _ (t : Float) (ok : temperaturePermittedOf t ≡ true) where
   pub number-at-zero : isNan (pressuresOf t 0) ≡ false
   number-at-zero = step-number 0 (omega arith)
 
-  pub numbers : (c : ℕ) → topPermittedOf c ≡ true → Numbers (pressuresOf t) (endStep c)
-  unfolding topPermittedOf
+  pub numbers : (c : ℕ) → topTest r245ca c .0 ≡ true → Numbers (pressuresOf t) (endStep c)
   numbers c few k h =
       let (some, under) = and-passed (leb 1 c) (leb c (r245ca .topCells)) few in
       step-number k (omega (arith, leb-true c (r245ca .topCells) under, r245ca-cells))
 
-  end-numbers : (c : ℕ) → topPermittedOf c ≡ true → Numbers (atEnds (pressuresOf t)) c
+  end-numbers : (c : ℕ) → topTest r245ca c .0 ≡ true → Numbers (atEnds (pressuresOf t)) c
   end-numbers c few j h = numbers c few (endStep j) (omega arith)
 
 -- ---- a preparation never fails at a permitted T and c in lists long enough
-pub prepared-always : (t : Float) (c : ℕ) (g l : List Float) → prepareInputsOf t c (roomOf c (length g) (length l)) ≡ Granted → prepareOf t c g l ≡ Ready
+pub prepared-always : (t : Float) (c : ℕ) (g l : List Float) → preparePermit r245ca t c (roomOf c (length g) (length l)) ≡ Granted → prepareOf t c g l ≡ Ready
 prepared-always t c g l ok =
     ready (prepareOf t c g l)
     (λ e r.
     let twelve = fails-with-twelve t c g l ok e r in
     let (j, h, nan-there) = fails-exactly t c g l ok .0 (r ∙ ap Prepared.Refused twelve) in
-    clash (isNan (pressuresOf t (endStep j))) nan-there (end-numbers t (passed .temperature-passed) c (passed .top-passed) j h))
+    clash (isNan (pressuresOf t (endStep j))) nan-there (end-numbers t (passed .1 .0) c (passed .1 .1 .0) j h))
   where
-    passed : Passed (finite t) (temperaturePermittedOf t) true (topPermittedOf c) (roomOf c (length g) (length l))
+    passed : AllPassed (prepareTests r245ca t c (roomOf c (length g) (length l)))
     passed = prepare-passed t c (roomOf c (length g) (length l)) ok
 
     ready : (x : Prepared) → ((e : Refusal) → x ≡ Prepared.Refused e → ⊥) → x ≡ Ready
@@ -107,9 +111,9 @@ prepared-always t c g l ok =
     ready (Prepared.Refused e) n = absurd (n e refl)
 
 -- ---- the plain search from below, at a permitted T, P and c
-module _ (t P : Float) (c : ℕ) (ok : searchInputsOf t P c true ≡ Granted) where
+module _ (t P : Float) (c : ℕ) (ok : searchPermit r245ca t P c true ≡ Granted) where
   all-numbers : Numbers (pressuresOf t) (endStep c)
-  all-numbers = numbers t (search-passed t P c true ok .temperature-passed) c (search-passed t P c true ok .top-passed)
+  all-numbers = numbers t (search-passed t P c true ok .1 .0) c (search-passed t P c true ok .1 .1 .1 .0)
 
   -- it refuses exactly if no coarse cell j has p(j) ≤ P < p(j+1)
   from-below-exactly : (plainOf t P c FromBelow ≡ Found.Refused NoCell) ↔ NoCellEncloses (atEnds (pressuresOf t)) P c
@@ -119,48 +123,39 @@ module _ (t P : Float) (c : ℕ) (ok : searchInputsOf t P c true ≡ Granted) wh
 twelve-not-eight : WorkNotFinite ≡ NoCell → ⊥
 twelve-not-eight e = let z : _≡_ {A = ℕ} 0 1 = cc in omega arith
 
-state-found : (t : Float) (side : Side) (x : Place) → HasStep x → (density : Float) × (word : Word) × (foundStateOf t side x ≡ State density word)
+state-found : (t : Float) (side : Side) (x : Located) → HasStep x → (density : Float) × (word : Word) × (foundStateOf t side x ≡ State density word)
 unfolding foundStateOf
 state-found t side x (k, e) = (stepDensityOf k, stateWordOf t side, rw e)
 
 -- the inputs refuse with none but 2, 3, 5, 6 and 7
-abbrev searchTests : Float → Float → ℕ → Bool → List (Bool × Refusal)
-searchTests t P c room =
-    (finite t && finite P, InputNotFinite)
-    ∷ (temperaturePermittedOf t, TemperatureOutside)
-    ∷ (pressurePermittedOf P, PressureOutside)
-    ∷ (topPermittedOf c, TopOutside)
-    ∷ (room, TooShort)
-    ∷ []
+inputs-not-12 : (t P : Float) (c : ℕ) (room : Bool) → searchPermit r245ca t P c room ≡ Denied WorkNotFinite → ⊥
+unfolding searchPermit
+inputs-not-12 t P c room = never-denied WorkNotFinite (searchTests r245ca t P c room) tt
 
-inputs-not-12 : (t P : Float) (c : ℕ) (room : Bool) → searchInputsOf t P c room ≡ Denied WorkNotFinite → ⊥
-unfolding searchInputsOf firstRefusalOf
-inputs-not-12 t P c room = never-denied WorkNotFinite (searchTests t P c room) tt
-
-inputs-not-8 : (t P : Float) (c : ℕ) (room : Bool) → searchInputsOf t P c room ≡ Denied NoCell → ⊥
-unfolding searchInputsOf firstRefusalOf
-inputs-not-8 t P c room = never-denied NoCell (searchTests t P c room) tt
+inputs-not-8 : (t P : Float) (c : ℕ) (room : Bool) → searchPermit r245ca t P c room ≡ Denied NoCell → ⊥
+unfolding searchPermit
+inputs-not-8 t P c room = never-denied NoCell (searchTests r245ca t P c room) tt
 
 -- so 8 comes from permitted inputs alone
-eight-permitted : (t P : Float) (c : ℕ) (side : Side) → plainOf t P c side ≡ Found.Refused NoCell → searchInputsOf t P c true ≡ Granted
+eight-permitted : (t P : Float) (c : ℕ) (side : Side) → plainOf t P c side ≡ Found.Refused NoCell → searchPermit r245ca t P c true ≡ Granted
 unfolding plainOf
 eight-permitted t P c side r =
-    searched-refuses (searchInputsOf t P c true) t side (plainStepOf side (pressuresOf t) P c) NoCell r
+    searched-refuses (searchPermit r245ca t P c true) t side (plainStepOf side (pressuresOf t) P c) NoCell r
     (λ i. absurd (inputs-not-8 t P c true i)) (λ ok x. ok)
 
-module _ (t P : Float) (c : ℕ) (ok : searchInputsOf t P c true ≡ Granted) where
+module _ (t P : Float) (c : ℕ) (ok : searchPermit r245ca t P c true ≡ Granted) where
   asked : Question (pressuresOf t) P c
   asked = question t P c true ok (keptOf r245ca t)
 
   -- at density 0 the pressure is not above P
   starts-low : le (pressuresOf t 0) P ≡ true
-  starts-low = le-of-not-lt (pressuresOf t 0) P (number-at-zero t (search-passed t P c true ok .temperature-passed)) (asked .number) (asked .start)
+  starts-low = le-of-not-lt (pressuresOf t 0) P (number-at-zero t (search-passed t P c true ok .1 .0)) (asked .number) (asked .start)
 
-  place-not-12 : (side : Side) → plainStepOf side (pressuresOf t) P c ≡ Place.Refused WorkNotFinite → ⊥
+  place-not-12 : (side : Side) → plainStepOf side (pressuresOf t) P c ≡ Located.Refused WorkNotFinite → ⊥
   place-not-12 FromBelow r = twelve-not-eight (any.refuses-with-eight (pressuresOf t) P c (all-numbers t P c ok) WorkNotFinite r)
   place-not-12 FromAbove r = twelve-not-eight (above-refuses (pressuresOf t) P c (asked .some-cell) (all-numbers t P c ok) starts-low WorkNotFinite r .0)
 
-  place-refused : (side : Side) (e : Refusal) → plainOf t P c side ≡ Found.Refused e → plainStepOf side (pressuresOf t) P c ≡ Place.Refused e
+  place-refused : (side : Side) (e : Refusal) → plainOf t P c side ≡ Found.Refused e → plainStepOf side (pressuresOf t) P c ≡ Located.Refused e
   unfolding plainOf
   place-refused side e r = state-refuses t side (plainStepOf side (pressuresOf t) P c) e (rw ok at r)
 
@@ -195,7 +190,7 @@ module _ (t P : Float) (c : ℕ) (side : Side) where
   pub plain-never-12 : plainOf t P c side ≡ Found.Refused WorkNotFinite → ⊥
   unfolding plainOf
   plain-never-12 r =
-      searched-refuses (searchInputsOf t P c true) t side (plainStepOf side (pressuresOf t) P c) WorkNotFinite r
+      searched-refuses (searchPermit r245ca t P c true) t side (plainStepOf side (pressuresOf t) P c) WorkNotFinite r
       (inputs-not-12 t P c true) (λ ok x. place-not-12 t P c ok side x)
 
   -- nor does the quick one, whatever its lists hold
@@ -203,11 +198,11 @@ module _ (t P : Float) (c : ℕ) (side : Side) where
   unfolding quickOf
   quick-never-12 g l r =
       let room = roomOf c (length g) (length l) in
-      searched-refuses (searchInputsOf t P c room) t side (quickStepOf (entriesBy side g l) (pressuresOf t) P c) WorkNotFinite r
+      searched-refuses (searchPermit r245ca t P c room) t side (quickStep (entriesBy side g l) (pressuresOf t) P c) WorkNotFinite r
       (inputs-not-12 t P c room)
       (λ ok x.
       let passed = search-passed t P c room ok in
-      quick-not-12 (entriesBy side g l) (pressuresOf t) P c (question t P c room ok (keptOf r245ca t) .some-cell) (numbers t (passed .temperature-passed) c (passed .top-passed)) x)
+      quick-not-12 (entriesBy side g l) (pressuresOf t) P c (question t P c room ok (keptOf r245ca t) .some-cell) (numbers t (passed .1 .0) c (passed .1 .1 .1 .0)) x)
 
 -- ---- an answered density encloses P, with no proviso for the side from below
 granted-of : (i : Permit) (f : Found) (density : Float) (word : Word) → searched i f ≡ State density word → i ≡ Granted
@@ -217,8 +212,8 @@ granted-of (Denied r) f density word e = let z : _≡_ {A = ℕ} 0 1 = cc in abs
 pub plain-encloses : (t P : Float) (c : ℕ) (side : Side) (density : Float) (word : Word) → plainOf t P c side ≡ State density word → Answers t P c side density word
 unfolding plainOf
 plain-encloses t P c FromBelow density word e =
-    let ok = granted-of (searchInputsOf t P c true) _ density word e in
-    plain-from-below-encloses t P c density word (number-at-zero t (search-passed t P c true ok .temperature-passed)) e
+    let ok = granted-of (searchPermit r245ca t P c true) _ density word e in
+    plain-from-below-encloses t P c density word (number-at-zero t (search-passed t P c true ok .1 .0)) e
 plain-encloses t P c FromAbove density word e = plain-from-above-encloses t P c density word e
 
 -- ---- no permitted question is left without a density: at 1,664 cells every permitted T and P gets one, from below and from above
@@ -226,8 +221,8 @@ top-density : stepDensityOf (endStep 1664) ≡ r245ca .greatestρ
 unfolding stepDensityOf r245ca mul ofInt round
 top-density = refl
 
-top-pressure : (t : Float) → temperaturePermittedOf t ≡ true → lt (r245ca .greatestP) (pressuresOf t (endStep 1664)) ≡ true
-unfolding temperaturePermittedOf stepPressureOf
+top-pressure : (t : Float) → temperatureTest r245ca t .0 ≡ true → lt (r245ca .greatestP) (pressuresOf t (endStep 1664)) ≡ true
+unfolding stepPressureOf
 top-pressure t ok =
     let (low, high) = and-passed (le (r245ca .leastT) t) (le t (r245ca .greatestT)) ok in
     rw top-density
@@ -235,21 +230,20 @@ top-pressure t ok =
     r245ca-rises t (temperature-finite r245ca r245ca-passes t (real 0) (holds (between (r245ca .leastT) t (r245ca .greatestT)) ok))
     (holds (le (r245ca .leastT) t) low) (holds (le t (r245ca .greatestT)) high))
 
-pub every-question-answered : (t P : Float) (side : Side) → searchInputsOf t P 1664 true ≡ Granted → (density : Float) × (word : Word) × (plainOf t P 1664 side ≡ State density word)
-unfolding pressurePermittedOf
+pub every-question-answered : (t P : Float) (side : Side) → searchPermit r245ca t P 1664 true ≡ Granted → (density : Float) × (word : Word) × (plainOf t P 1664 side ≡ State density word)
 every-question-answered t P side ok =
     let passed = search-passed t P 1664 true ok in
-    let (low, high) = and-passed (le (r245ca .leastP) P) (le P (r245ca .greatestP)) (passed .pressure-passed) in
-    density-found t P 1664 ok (le-lt-trans P (r245ca .greatestP) (pressuresOf t (endStep 1664)) high (top-pressure t (passed .temperature-passed))) side
+    let (low, high) = and-passed (le (r245ca .leastP) P) (le P (r245ca .greatestP)) (passed .1 .1 .0) in
+    density-found t P 1664 ok (le-lt-trans P (r245ca .greatestP) (pressuresOf t (endStep 1664)) high (top-pressure t (passed .1 .0))) side
 
 -- ---- 8, exactly
-pub eight-from-below : (t P : Float) (c : ℕ) → (plainOf t P c FromBelow ≡ Found.Refused NoCell) ↔ ((searchInputsOf t P c true ≡ Granted) × NoCellEncloses (atEnds (pressuresOf t)) P c)
+pub eight-from-below : (t P : Float) (c : ℕ) → (plainOf t P c FromBelow ≡ Found.Refused NoCell) ↔ ((searchPermit r245ca t P c true ≡ Granted) × NoCellEncloses (atEnds (pressuresOf t)) P c)
 eight-from-below t P c = (
   (λ r. let ok = eight-permitted t P c FromBelow r in (ok, from-below-exactly t P c ok .0 r)),
   (λ (ok, none). from-below-exactly t P c ok .1 none),
 )
 
-pub eight-from-above : (t P : Float) (c : ℕ) → (plainOf t P c FromAbove ≡ Found.Refused NoCell) ↔ ((searchInputsOf t P c true ≡ Granted) × (le (pressuresOf t (endStep c)) P ≡ true))
+pub eight-from-above : (t P : Float) (c : ℕ) → (plainOf t P c FromAbove ≡ Found.Refused NoCell) ↔ ((searchPermit r245ca t P c true ≡ Granted) × (le (pressuresOf t (endStep c)) P ≡ true))
 eight-from-above t P c = (
   (λ r. let ok = eight-permitted t P c FromAbove r in (ok, from-above-exactly t P c ok .0 r)),
   (λ (ok, top). from-above-exactly t P c ok .1 top),

@@ -17,21 +17,22 @@ use Rattle.refusals.specs.declared.Answer.the-variants.{Refused}
 use Rattle.refusals.specs.Order.{permitted}
 use Rattle.refusals.proofs.Needed.{test-passed}
 use Rattle.arithmetic.specs.Checked.{real, two⁻, between, _⊕_, _⊗_}
-use Rattle.arithmetic.specs.Root.{rootOf}
-use Rattle.arithmetic.specs.Calls.{outcomeOf}
+use Rattle.elementary.specs.Root.{rootOf}
+use Rattle.arithmetic.specs.Answered.{answerFrom}
 use Rattle.arithmetic.proofs.Order as tests
 use Rattle.fluids.specs.Fluid.{Fluid}
 use Rattle.equation.specs.Kept.{keptOf}
-use Rattle.equation.specs.Values.{sums, «V», K, Q, isobaricValue, soundSpeedValue}
-use Rattle.equation.specs.Calls.{workedDensity, stableOf, statePermit, stabilityPermit, isobaricOf, soundSpeedOf}
-use Rattle.search.proofs.Tests.{by}
+use Rattle.values.specs.Values.{sums, «V», K, Q, isobaricValue, soundSpeedValue}
+use Rattle.properties.specs.Calls.{workedDensity, stableOf, stabilityPermit, isobaricOf, soundSpeedOf}
+use Rattle.inputs.specs.Inputs.{statePermit}
+use Rattle.refusals.proofs.Tests.{by}
 use Rattle.bounds.specs.NoAnswer.{StableState, rootArgument, VanishingQ}
-use Rattle.bounds.proofs.Fractions.{is-true, holds, chain, order-of-test}
-use Rattle.bounds.proofs.Representable.{sum-fits, product-fits, sum-is, summands-finite}
-use Rattle.bounds.proofs.Rows.{s2-fits}
-use Rattle.bounds.proofs.Cancellation.{Large, Apart, zero-test, denominator, sum-apart, one-apart}
-use Rattle.bounds.proofs.Elementary.{root-in-range, root-outside}
-use Rattle.bounds.proofs.Entry.{passes}
+use Rattle.intervals.proofs.Fractions.{is-true, holds, chain, order-of-test}
+use Rattle.intervals.proofs.Representable.{sum-fits, product-fits, sum-is, summands-finite}
+use Rattle.ranges.proofs.Rows.{s2-fits}
+use Rattle.intervals.proofs.Cancellation.{Large, Apart, zero-test, denominator, sum-apart, one-apart}
+use Rattle.intervals.proofs.Elementary.{root-in-range, root-outside}
+use Rattle.ranges.proofs.Entry.{passes}
 use Rattle.bounds.proofs.Permits.{refused-granted, state-denied}
 use Rattle.bounds.proofs.NeverTwelve.{finite-where-granted}
 
@@ -55,7 +56,7 @@ stable-positive v k q fv fk fq e =
     go false t = refl
 
 -- an answer behind two permits is 12 only where both are granted
-both-granted : (p s : Permit) (v : Float) → (p ≡ Denied WorkNotFinite → ⊥) → (p ≡ Granted → s ≡ Denied WorkNotFinite → ⊥) → permitted p (permitted s (outcomeOf v)) ≡ Refused WorkNotFinite
+both-granted : (p s : Permit) (v : Float) → (p ≡ Denied WorkNotFinite → ⊥) → (p ≡ Granted → s ≡ Denied WorkNotFinite → ⊥) → permitted p (permitted s (answerFrom v)) ≡ Refused WorkNotFinite
     → (p ≡ Granted) × (s ≡ Granted) × (finite v ≡ false)
 both-granted Granted s v n m e = let (g, f) = refused-granted s v (m refl) e in (refl, g, f)
 both-granted (Denied r) s v n m e = let same : Denied r ≡ Denied WorkNotFinite = ap Denied (cc) in absurd (n same)

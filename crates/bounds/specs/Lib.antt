@@ -1,3 +1,2 @@
 pub mod NoAnswer
-pub mod Variants
 pub mod Records

@@ -1,7 +1,7 @@
 -- docs/NO-ANSWER.md, "When is there no answer?", line by line: when each call refuses with 12, and what the density searches refuse
 -- with; proofs/NoAnswer.antt proves it of R-245ca.
 use mathlib.Core.Path.{_≡_}
-use mathlib.Core.Logic.{_↔_, _⊎_}
+use mathlib.Core.Logic.{_↔_}
 use mathlib.Core.List.{List, [], _∷_}
 use mathlib.Core.Bool.{true, false}
 use Prim.Native.Nat.{ℕ, _^_}
@@ -13,26 +13,29 @@ use Rattle.refusals.specs.declared.Refusal.the-variants.{NoCell, NotEnclosed, N
 use Rattle.refusals.specs.declared.Permit.the-variants.{Granted}
 use Rattle.refusals.specs.declared.Answer.{Answer}
 use Rattle.refusals.specs.declared.Answer.the-variants.{Refused}
-use Rattle.refusals.specs.Code.{answerCodeOf}
+use Rattle.refusals.specs.Code.{answerCodeOf, OneOf}
 use Rattle.arithmetic.specs.Checked.{real, two⁻, minus, between, _⊕_, _⊗_, _⊘_}
-use Rattle.arithmetic.specs.Calls.{exponentialOf, logarithmOf, squareRootOf}
+use Rattle.elementary.specs.Calls.{exponentialOf, logarithmOf, squareRootOf}
 use Rattle.fluids.specs.Fluid.{Fluid}
 use Rattle.fluids.specs.R245ca.{r245ca}
-use Rattle.equation.specs.Values.{δ, sums, «V», K, Q}
-use Rattle.equation.specs.Calls.{workedDensity, statePermit, potentialPermit, stabilityPermit, pressureOf, energyOf, enthalpyOf, isochoricOf, entropyOf, gibbsOf, helmholtzOf, isobaricOf, soundSpeedOf}
+use Rattle.values.specs.Values.{δ, sums, «V», K, Q}
+use Rattle.properties.specs.Calls.{workedDensity, stabilityPermit, pressureOf, energyOf, enthalpyOf, isochoricOf, entropyOf, gibbsOf, helmholtzOf, isobaricOf, soundSpeedOf}
+use Rattle.inputs.specs.Inputs.{statePermit, potentialPermit}
 use Rattle.saturation.specs.Calls.{saturationPressureOf, saturatedLiquidOf, saturatedVapourOf}
 use Rattle.search.specs.Plain.{endStep, atEnds}
-use Rattle.search.proofs.ExactlyEight.{NoCellEncloses}
+use Rattle.search.specs.Enclosed.{NoCellEncloses}
 use Rattle.density.specs.declared.Side.{Side}
 use Rattle.density.specs.declared.Side.the-variants.{FromBelow, FromAbove}
 use Rattle.density.specs.declared.Word.{Word}
 use Rattle.density.specs.declared.Found.{Found}
 use Rattle.density.specs.declared.Found.the-variants.{State}
-use Rattle.density.specs.declared.Prepared.the-variants.{Ready}
-use Rattle.density.specs.Inputs.{roomOf, searchInputsOf, prepareInputsOf}
-use Rattle.density.specs.Calls.{pressuresOf, plainOf, prepareOf, greatestAfter, leastAfter, quickOf}
-use Rattle.density.specs.Codes.{foundCodeOf, preparedCodeOf}
-use Rattle.density.proofs.Encloses.{Answers}
+use Rattle.preparation.specs.declared.Prepared.the-variants.{Ready}
+use Rattle.inputs.specs.Inputs.{roomOf, searchPermit, preparePermit}
+use Rattle.steps.specs.Steps.{pressuresOf}
+use Rattle.density.specs.Calls.{plainOf, quickOf}
+use Rattle.preparation.specs.Prepare.{prepareOf, greatestAfter, leastAfter}
+use Rattle.outcomes.specs.Codes.{foundCodeOf, preparedCodeOf}
+use Rattle.density.specs.Answers.{Answers}
 
 abbrev pub Never12 : Answer → Type 0
 Never12 a = a ≡ Refused WorkNotFinite → ⊥
@@ -88,25 +91,21 @@ Never e f = f ≡ Found.Refused e → ⊥
 -- the searches of R-245ca, with no proviso
 pub record SearchCalls : Type 0 where
   -- a preparation never fails at a permitted T and c in lists long enough
-  pub prepared : (t : Float) (c : ℕ) (g l : List Float) → prepareInputsOf t c (roomOf c (length g) (length l)) ≡ Granted → prepareOf t c g l ≡ Ready
+  pub prepared : (t : Float) (c : ℕ) (g l : List Float) → preparePermit r245ca t c (roomOf c (length g) (length l)) ≡ Granted → prepareOf t c g l ≡ Ready
   -- whatever the inputs: a plain search never ends with 9, 12 or 16
   pub plain : (t P : Float) (c : ℕ) (side : Side) → Never NotNeighbours (plainOf t P c side) × Never WorkNotFinite (plainOf t P c side) × Never NotEnclosed (plainOf t P c side)
   -- a quick one never with 9 or 12, and over prepared lists never with 16
   pub quick : (t P : Float) (c : ℕ) (side : Side) (g l : List Float) → Never NotNeighbours (quickOf t P c side g l) × Never WorkNotFinite (quickOf t P c side g l)
   pub quick-prepared : (t P : Float) (c : ℕ) (side : Side) (g l : List Float) → prepareOf t c g l ≡ Ready → Never NotEnclosed (quickOf t P c side (greatestAfter t c g l) (leastAfter t c g l))
   -- 8 comes exactly if T, P and c are permitted and, from below, no coarse cell j has p(j) ≤ P < p(j+1), from above, p(c) ≤ P
-  pub from-below : (t P : Float) (c : ℕ) → (plainOf t P c FromBelow ≡ Found.Refused NoCell) ↔ ((searchInputsOf t P c true ≡ Granted) × NoCellEncloses (atEnds (pressuresOf t)) P c)
-  pub from-above : (t P : Float) (c : ℕ) → (plainOf t P c FromAbove ≡ Found.Refused NoCell) ↔ ((searchInputsOf t P c true ≡ Granted) × (le (pressuresOf t (endStep c)) P ≡ true))
+  pub from-below : (t P : Float) (c : ℕ) → (plainOf t P c FromBelow ≡ Found.Refused NoCell) ↔ ((searchPermit r245ca t P c true ≡ Granted) × NoCellEncloses (atEnds (pressuresOf t)) P c)
+  pub from-above : (t P : Float) (c : ℕ) → (plainOf t P c FromAbove ≡ Found.Refused NoCell) ↔ ((searchPermit r245ca t P c true ≡ Granted) × (le (pressuresOf t (endStep c)) P ≡ true))
   -- and permitted inputs meet no other refusal
-  pub only-8 : (t P : Float) (c : ℕ) (side : Side) → searchInputsOf t P c true ≡ Granted → (e : Refusal) → plainOf t P c side ≡ Found.Refused e → e ≡ NoCell
+  pub only-8 : (t P : Float) (c : ℕ) (side : Side) → searchPermit r245ca t P c true ≡ Granted → (e : Refusal) → plainOf t P c side ≡ Found.Refused e → e ≡ NoCell
   -- an answered density encloses P
   pub encloses : (t P : Float) (c : ℕ) (side : Side) (density : Float) (word : Word) → plainOf t P c side ≡ State density word → Answers t P c side density word
   -- at 1,664 cells every permitted T and P gets a density, from either side
-  pub answered : (t P : Float) (side : Side) → searchInputsOf t P 1664 true ≡ Granted → (density : Float) × (word : Word) × (plainOf t P 1664 side ≡ State density word)
-
-abbrev pub OneOf : ℕ → List ℕ → Type 0
-OneOf n [] = ⊥
-OneOf n (x ∷ xs) = (n ≡ x) ⊎ OneOf n xs
+  pub answered : (t P : Float) (side : Side) → searchPermit r245ca t P 1664 true ≡ Granted → (density : Float) × (word : Word) × (plainOf t P 1664 side ≡ State density word)
 
 -- so the code of a call is one of these, whatever its inputs are
 pub record Codes : Type 0 where

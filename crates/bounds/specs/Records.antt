@@ -8,7 +8,7 @@ use lib.ListN.{length}
 use Rattle.refusals.specs.declared.Permit.the-variants.{Granted}
 use Rattle.records.specs.Record.{readingOf}
 use Rattle.records.specs.Call.{permitOf, callCode}
-use Rattle.bounds.specs.NoAnswer.{OneOf}
+use Rattle.refusals.specs.Code.{OneOf}
 
 pub record RecordCalls : Type 0 where
   -- 0 exactly if the mark, the two numbers and the room in the output are permitted

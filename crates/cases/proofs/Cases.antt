@@ -5,24 +5,26 @@ use lib.Ieee.{nan, isNan, add, sub, mul, div, neg, ofInt, round, ofBits, toBits,
 use Rattle.refusals.specs.declared.Refusal.the-variants.{InputNotFinite, TemperatureOutside, PressureOutside, TopOutside, NoCell, AtZeroDensity}
 use Rattle.refusals.specs.declared.Answer.the-variants.{Number, Refused}
 use Rattle.arithmetic.specs.Checked.{real, _e-_, within, minus, _▷_, _⊕_, _⊖_, _⊗_, _⊘_}
-use Rattle.arithmetic.specs.Exp.{expSteps, squared, expWork, expOf}
-use Rattle.arithmetic.specs.Ln.{mOf, eOf, lnSteps, lnWork, lnOf}
-use Rattle.arithmetic.specs.Root.{rootSteps, rootOf}
-use Rattle.arithmetic.specs.Power.{_↑_}
-use Rattle.arithmetic.specs.Calls.{exponentialOf, logarithmOf, squareRootOf}
+use Rattle.exponentials.specs.Exp.{expSteps, squared, expWork, expOf}
+use Rattle.elementary.specs.Ln.{mOf, eOf, lnSteps, lnWork, lnOf}
+use Rattle.elementary.specs.Root.{rootSteps, rootOf}
+use Rattle.elementary.specs.Power.{_↑_}
+use Rattle.elementary.specs.Calls.{exponentialOf, logarithmOf, squareRootOf}
 use Rattle.fluids.specs.R245ca.{r245ca}
 use Rattle.equation.specs.Rows.{powerAt, bellAt, xAt, rowAt}
 use Rattle.equation.specs.Sums.{rowFirst, sumsFirst, rowOf, sumsTo}
 use Rattle.equation.specs.Kept.{keptOf, sumsAt, pressureAt}
-use Rattle.equation.specs.Values.{pressureValue}
-use Rattle.equation.specs.Calls.{workedDensity, statePermit, potentialPermit, pressureOf, entropyOf}
-use Rattle.search.specs.declared.Place.{Place}
-use Rattle.search.specs.declared.Place.the-variants.{At}
+use Rattle.values.specs.Values.{pressureValue}
+use Rattle.properties.specs.Calls.{workedDensity, pressureOf, entropyOf}
+use Rattle.inputs.specs.Inputs.{statePermit, potentialPermit}
+use Rattle.search.specs.declared.Located.{Located}
+use Rattle.search.specs.declared.Located.the-variants.{At}
 use Rattle.search.specs.Plain.{visitUp, cellFromBelow, visitDown, cellFromAbove}
 use Rattle.search.specs.Lists.{greaterOf, lesserOf, greatest, leastOfNext, someNotFinite, filled, greatestList, leastList}
 use Rattle.search.specs.Quick.{halvedPlaces, enclosing, quickCell}
-use Rattle.density.specs.Inputs.{temperaturePermittedOf, pressurePermittedOf, topPermittedOf, firstRefusalOf, searchInputsOf, prepareInputsOf}
-use Rattle.density.specs.Calls.{plainOf, prepareOf, quickOf}
+use Rattle.inputs.specs.Inputs.{searchPermit, preparePermit}
+use Rattle.density.specs.Calls.{plainOf, quickOf}
+use Rattle.preparation.specs.Prepare.{prepareOf}
 use Rattle.cases.specs.Table.{row, plainRefused, quickRefused, preparationRefused, any, one, pressures, lent, fromBelow, fromAbove, quickFromBelow, quickFromAbove, Holds, Hold, cases}
 
 exp-of-0 : exponentialOf (real 0) ≡ Number (real 1)
@@ -49,59 +51,59 @@ unfolding entropyOf potentialPermit r245ca neg ofInt round le lt eq
 entropy-at-0 = refl
 
 temperature-nan : Holds (plainRefused nan (real 0) any InputNotFinite)
-unfolding plainOf searchInputsOf firstRefusalOf
+unfolding plainOf searchPermit
 temperature-nan = refl
 
 quick-temperature-nan : Holds (quickRefused nan (real 0) any InputNotFinite)
-unfolding quickOf searchInputsOf firstRefusalOf
+unfolding quickOf searchPermit
 quick-temperature-nan = refl
 
 preparation-temperature-nan : Holds (preparationRefused nan any InputNotFinite)
-unfolding prepareOf prepareInputsOf firstRefusalOf
+unfolding prepareOf preparePermit
 preparation-temperature-nan = refl
 
 temperature-500 : Holds (plainRefused (real 500) (real 0) any TemperatureOutside)
-unfolding plainOf searchInputsOf firstRefusalOf r245ca temperaturePermittedOf le lt eq ofInt round
+unfolding plainOf searchPermit r245ca le lt eq ofInt round
 temperature-500 = refl
 
 quick-temperature-500 : Holds (quickRefused (real 500) (real 0) any TemperatureOutside)
-unfolding quickOf searchInputsOf firstRefusalOf r245ca temperaturePermittedOf le lt eq ofInt round
+unfolding quickOf searchPermit r245ca le lt eq ofInt round
 quick-temperature-500 = refl
 
 preparation-temperature-500 : Holds (preparationRefused (real 500) any TemperatureOutside)
-unfolding prepareOf prepareInputsOf firstRefusalOf r245ca temperaturePermittedOf le lt eq ofInt round
+unfolding prepareOf preparePermit r245ca le lt eq ofInt round
 preparation-temperature-500 = refl
 
 pressure-half : Holds (plainRefused (real 400) (5 e- 1) any PressureOutside)
-unfolding plainOf searchInputsOf firstRefusalOf r245ca temperaturePermittedOf pressurePermittedOf le lt eq ofInt round
+unfolding plainOf searchPermit r245ca le lt eq ofInt round
 pressure-half = refl
 
 quick-pressure-half : Holds (quickRefused (real 400) (5 e- 1) any PressureOutside)
-unfolding quickOf searchInputsOf firstRefusalOf r245ca temperaturePermittedOf pressurePermittedOf le lt eq ofInt round
+unfolding quickOf searchPermit r245ca le lt eq ofInt round
 quick-pressure-half = refl
 
 top-0 : Holds (plainRefused (real 400) (real 100000) (one 0) TopOutside)
-unfolding plainOf searchInputsOf firstRefusalOf r245ca temperaturePermittedOf pressurePermittedOf topPermittedOf le lt eq ofInt round
+unfolding plainOf searchPermit r245ca le lt eq ofInt round
 top-0 = refl
 
 quick-top-0 : Holds (quickRefused (real 400) (real 100000) (one 0) TopOutside)
-unfolding quickOf searchInputsOf firstRefusalOf r245ca temperaturePermittedOf pressurePermittedOf topPermittedOf le lt eq ofInt round
+unfolding quickOf searchPermit r245ca le lt eq ofInt round
 quick-top-0 = refl
 
 preparation-top-0 : Holds (preparationRefused (real 400) (one 0) TopOutside)
-unfolding prepareOf prepareInputsOf firstRefusalOf r245ca temperaturePermittedOf topPermittedOf le lt eq ofInt round
+unfolding prepareOf preparePermit r245ca le lt eq ofInt round
 preparation-top-0 = refl
 
 top-1665 : Holds (plainRefused (real 400) (real 100000) (one 1665) TopOutside)
-unfolding plainOf searchInputsOf firstRefusalOf r245ca temperaturePermittedOf pressurePermittedOf topPermittedOf le lt eq ofInt round
+unfolding plainOf searchPermit r245ca le lt eq ofInt round
 top-1665 = refl
 
 quick-top-1665 : Holds (quickRefused (real 400) (real 100000) (one 1665) TopOutside)
-unfolding quickOf searchInputsOf firstRefusalOf r245ca temperaturePermittedOf pressurePermittedOf topPermittedOf le lt eq ofInt round
+unfolding quickOf searchPermit r245ca le lt eq ofInt round
 quick-top-1665 = refl
 
 preparation-top-1665 : Holds (preparationRefused (real 400) (one 1665) TopOutside)
-unfolding prepareOf prepareInputsOf firstRefusalOf r245ca temperaturePermittedOf topPermittedOf le lt eq ofInt round
+unfolding prepareOf preparePermit r245ca le lt eq ofInt round
 preparation-top-1665 = refl
 
 greatest-list : Holds (row (greatestList pressures 4 lent) (map real (0 ∷ 4 ∷ 4 ∷ 4 ∷ 9 ∷ [])))
@@ -136,19 +138,19 @@ quick-four-from-below : Holds (quickFromBelow (real 4) (At 3))
 unfolding quickCell halvedPlaces enclosing greatest greaterOf isNan ofInt round le lt eq
 quick-four-from-below = refl
 
-nine-from-below : Holds (fromBelow (real 9) (Place.Refused NoCell))
+nine-from-below : Holds (fromBelow (real 9) (Located.Refused NoCell))
 unfolding cellFromBelow visitUp isNan ofInt round lt
 nine-from-below = refl
 
-quick-nine-from-below : Holds (quickFromBelow (real 9) (Place.Refused NoCell))
+quick-nine-from-below : Holds (quickFromBelow (real 9) (Located.Refused NoCell))
 unfolding quickCell halvedPlaces enclosing greatest greaterOf isNan ofInt round le lt eq
 quick-nine-from-below = refl
 
-nine-from-above : Holds (fromAbove (real 9) (Place.Refused NoCell))
+nine-from-above : Holds (fromAbove (real 9) (Located.Refused NoCell))
 unfolding cellFromAbove visitDown isNan ofInt round le lt eq
 nine-from-above = refl
 
-quick-nine-from-above : Holds (quickFromAbove (real 9) (Place.Refused NoCell))
+quick-nine-from-above : Holds (quickFromAbove (real 9) (Located.Refused NoCell))
 unfolding quickCell halvedPlaces enclosing leastOfNext lesserOf isNan ofInt round le lt eq
 quick-nine-from-above = refl
 

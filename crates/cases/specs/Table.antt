@@ -8,18 +8,19 @@ use Rattle.refusals.specs.declared.Refusal.{Refusal}
 use Rattle.refusals.specs.declared.Refusal.the-variants.{InputNotFinite, TemperatureOutside, PressureOutside, TopOutside, NoCell, AtZeroDensity}
 use Rattle.refusals.specs.declared.Answer.the-variants.{Number, Refused}
 use Rattle.arithmetic.specs.Checked.{real, _e-_}
-use Rattle.arithmetic.specs.Calls.{exponentialOf, logarithmOf, squareRootOf}
+use Rattle.elementary.specs.Calls.{exponentialOf, logarithmOf, squareRootOf}
 use Rattle.fluids.specs.R245ca.{r245ca}
-use Rattle.equation.specs.Calls.{pressureOf, entropyOf}
-use Rattle.search.specs.declared.Place.{Place}
-use Rattle.search.specs.declared.Place.the-variants.{At}
+use Rattle.properties.specs.Calls.{pressureOf, entropyOf}
+use Rattle.search.specs.declared.Located.{Located}
+use Rattle.search.specs.declared.Located.the-variants.{At}
 use Rattle.search.specs.Plain.{cellFromBelow, cellFromAbove}
 use Rattle.search.specs.Lists.{greatest, least, greatestList, leastList}
 use Rattle.search.specs.Quick.{quickCell}
 use Rattle.density.specs.declared.Side.{Side}
 use Rattle.density.specs.declared.Found.{Found}
-use Rattle.density.specs.declared.Prepared.{Prepared}
-use Rattle.density.specs.Calls.{plainOf, prepareOf, quickOf}
+use Rattle.preparation.specs.declared.Prepared.{Prepared}
+use Rattle.density.specs.Calls.{plainOf, quickOf}
+use Rattle.preparation.specs.Prepare.{prepareOf}
 
 -- a row: what the definitions give, and what 01 prints
 pub record Row : Type 1 where
@@ -57,16 +58,16 @@ abbrev pub lent : List Float
 lent = map real (7 ∷ 7 ∷ 7 ∷ 7 ∷ 7 ∷ [])
 
 -- the cell of P among these, plainly and over G or L
-abbrev pub fromBelow : Float → Place → Row
+abbrev pub fromBelow : Float → Located → Row
 fromBelow P cell = row (cellFromBelow pressures P 4) cell
 
-abbrev pub fromAbove : Float → Place → Row
+abbrev pub fromAbove : Float → Located → Row
 fromAbove P cell = row (cellFromAbove pressures P 4) cell
 
-abbrev pub quickFromBelow : Float → Place → Row
+abbrev pub quickFromBelow : Float → Located → Row
 quickFromBelow P cell = row (quickCell (greatest pressures) pressures P 4) cell
 
-abbrev pub quickFromAbove : Float → Place → Row
+abbrev pub quickFromAbove : Float → Located → Row
 quickFromAbove P cell = row (quickCell (least pressures 4) pressures P 4) cell
 
 -- each row's two sides are equal
@@ -119,10 +120,10 @@ cases =
     ∷ fromBelow (real 4) (At 3)
     ∷ quickFromBelow (real 4) (At 3)
     -- (m) P 9: 8 from both sides
-    ∷ fromBelow (real 9) (Place.Refused NoCell)
-    ∷ quickFromBelow (real 9) (Place.Refused NoCell)
-    ∷ fromAbove (real 9) (Place.Refused NoCell)
-    ∷ quickFromAbove (real 9) (Place.Refused NoCell)
+    ∷ fromBelow (real 9) (Located.Refused NoCell)
+    ∷ quickFromBelow (real 9) (Located.Refused NoCell)
+    ∷ fromAbove (real 9) (Located.Refused NoCell)
+    ∷ quickFromAbove (real 9) (Located.Refused NoCell)
     -- (n) P 2.5 from above: cell 2
     ∷ fromAbove (25 e- 1) (At 2)
     ∷ quickFromAbove (25 e- 1) (At 2)

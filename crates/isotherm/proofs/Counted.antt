@@ -1,5 +1,5 @@
 -- One pair of answers counts 0 where they are the same and 1 where not; one pressure more adds its two pairs.
-use mathlib.Core.Path.{_≡_, sym, _∙_}
+use mathlib.Core.Path.{_≡_}
 use mathlib.Core.Bool.{Bool, true, false}
 use mathlib.Core.List.{List}
 use Prim.Native.Nat.{ℕ, _+_, _*_}

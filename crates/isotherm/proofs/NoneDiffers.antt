@@ -10,9 +10,9 @@ use Rattle.arithmetic.specs.Checked.{real}
 use Rattle.density.specs.declared.Side.{Side}
 use Rattle.density.specs.declared.Side.the-variants.{FromBelow, FromAbove}
 use Rattle.density.specs.declared.Found.{Found}
-use Rattle.density.specs.declared.Prepared.the-variants.{Ready}
-use Rattle.density.specs.Calls.{prepareOf, greatestAfter, leastAfter}
-use Rattle.density.specs.Codes.{foundCodeOf}
+use Rattle.preparation.specs.declared.Prepared.the-variants.{Ready}
+use Rattle.preparation.specs.Prepare.{prepareOf, greatestAfter, leastAfter}
+use Rattle.outcomes.specs.Codes.{foundCodeOf}
 use Rattle.outcomes.specs.Parts.{foundBitsOf, foundWordOf}
 use Rattle.density.proofs.QuickIsPlain.{quick-is-plain}
 use Rattle.isotherm.specs.Pairs.{sameOf, differsAt, differing}

@@ -9,7 +9,7 @@ use Rattle.density.specs.declared.Side.{Side}
 use Rattle.density.specs.declared.Side.the-variants.{FromBelow, FromAbove}
 use Rattle.density.specs.declared.Found.{Found}
 use Rattle.density.specs.Calls.{plainOf, quickOf}
-use Rattle.density.specs.Codes.{foundCodeOf}
+use Rattle.outcomes.specs.Codes.{foundCodeOf}
 use Rattle.outcomes.specs.Parts.{foundBitsOf, foundWordOf}
 
 -- two answers are the same in code, bits and word

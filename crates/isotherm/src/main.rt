@@ -2,10 +2,10 @@
 // 10,000,000, and prints how many of the 200 pairs of answers differ.
 mod pairs;
 
-use density::Prepared;
-use density::prepare;
 use libc::STDOUT_FILENO;
 use pairs::pairs_that_differ;
+use preparation::Prepared;
+use preparation::prepare;
 
 fn main() {
     let mut greatest = [0.0; 1665];

@@ -1,10 +1,10 @@
 // The pairs of answers that differ between the plain search and the quick one.
 use density::Found;
 use density::Side;
-use density::found_code;
 use density::plain;
 use density::quick;
 use outcomes::found_bits;
+use outcomes::found_code;
 use outcomes::found_word;
 ghost use mathlib.Core.Path.{_≡_};
 ghost use Prim.Native.Nat.{_≤_};

@@ -1,4 +1,2 @@
-mod WrittenPlaces
-mod Heads
-mod WrittenReply
-mod AskedWords
+mod Sweeps
+pub mod InRoom

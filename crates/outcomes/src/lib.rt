@@ -1,9 +1,43 @@
-// A search's outcome as numbers, beside its code (density::found_code), for programs that print or compare them.
+// What a search or a preparation ends with, as numbers: its code, a search's density as an answer or as bits, and its word.
 use density::Found;
 use density::Word;
+use preparation::Prepared;
+use refusals::Answer;
+use refusals::code;
 use words::bits;
 ghost use mathlib.Core.Path.{_≡_};
+ghost use Rattle.outcomes.specs.Codes.{foundCodeOf, preparedCodeOf, foundAnswerOf};
 ghost use Rattle.outcomes.specs.Parts.{wordNumberOf, foundBitsOf, foundWordOf};
+
+// 0 where a density is handed out, else the refusal's number.
+pub fn found_code(found: Found) -> u32
+    ensures { λ n. ⌜ n ≡ foundCodeOf found ⌝ }
+{
+    match found {
+        Found::State(_, _) => 0,
+        Found::Refused(r) => code(r),
+    }
+}
+
+// 0 where the lists are ready, else the refusal's number.
+pub fn prepared_code(prepared: Prepared) -> u32
+    ensures { λ n. ⌜ n ≡ preparedCodeOf prepared ⌝ }
+{
+    match prepared {
+        Prepared::Ready => 0,
+        Prepared::Refused(r) => code(r),
+    }
+}
+
+// The density alone, or the refusal.
+pub fn found_answer(found: Found) -> Answer
+    ensures { λ r. ⌜ r ≡ foundAnswerOf found ⌝ }
+{
+    match found {
+        Found::State(rho, _) => Answer::Number(rho),
+        Found::Refused(r) => Answer::Refused(r),
+    }
+}
 
 fn word_number(word: Word) -> u64
     ensures { λ r. ⌜ r ≡ wordNumberOf word ⌝ }

@@ -1,6 +1,6 @@
 // Reads questions from standard input to its end and writes their replies, a block at a time.
 //
-// A question is 24 bytes and a reply 16 (crate questions). A piece shorter than 24 bytes at the end
+// A question is 24 bytes and a reply 16 (crate probe_replies). A piece shorter than 24 bytes at the end
 // gets one reply, with code 15.
 use libc::STDIN_FILENO;
 use libc::STDOUT_FILENO;
@@ -25,7 +25,7 @@ fn block() -> bool {
     let mut input = question_block();
     let mut out = reply_block();
     let n = io::read_full(STDIN_FILENO, &mut input);
-    let end = questions::put_replies(&input[..n], &mut out);
+    let end = probe_replies::put_replies(&input[..n], &mut out);
     let written = io::write_all(STDOUT_FILENO, &out[..end]);
     if n < 65520 {
         return false;

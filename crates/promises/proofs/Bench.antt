@@ -4,68 +4,83 @@ use mathlib.Core.List.{List}
 use lib.Ieee.{Float}
 use denote.Ref.{now}
 use Rattle.promises.specs.OneOutcome.{OneResult, OneOutcome}
-use Rattle.bench.proofs.verriblom_exp.Kinds as verriblom-exp-kinds
-use Rattle.bench.proofs.verriblom_exp.Reads as verriblom-exp-reads
-use Rattle.bench.proofs.verriblom_ln.Kinds as verriblom-ln-kinds
-use Rattle.bench.proofs.verriblom_ln.Reads as verriblom-ln-reads
-use Rattle.bench.proofs.verriblom_root.Kinds as verriblom-root-kinds
-use Rattle.bench.proofs.verriblom_root.Reads as verriblom-root-reads
-use Rattle.bench.proofs.verriblom_pressure.Kinds as verriblom-pressure-kinds
-use Rattle.bench.proofs.verriblom_pressure.Reads as verriblom-pressure-reads
-use Rattle.bench.proofs.verriblom_entropy.Kinds as verriblom-entropy-kinds
-use Rattle.bench.proofs.verriblom_entropy.Reads as verriblom-entropy-reads
-use Rattle.bench.proofs.verriblom_isobaric.Kinds as verriblom-isobaric-kinds
-use Rattle.bench.proofs.verriblom_isobaric.Reads as verriblom-isobaric-reads
-use Rattle.bench.proofs.verriblom_sound_speed.Kinds as verriblom-sound-speed-kinds
-use Rattle.bench.proofs.verriblom_sound_speed.Reads as verriblom-sound-speed-reads
-use Rattle.bench.proofs.verriblom_isotherm.Kinds as verriblom-isotherm-kinds
-use Rattle.bench.proofs.verriblom_isotherm.Reads as verriblom-isotherm-reads
-use Rattle.bench.proofs.verriblom_plain_below.Kinds as verriblom-plain-below-kinds
-use Rattle.bench.proofs.verriblom_plain_below.Reads as verriblom-plain-below-reads
-use Rattle.bench.proofs.verriblom_plain_above.Kinds as verriblom-plain-above-kinds
-use Rattle.bench.proofs.verriblom_plain_above.Reads as verriblom-plain-above-reads
-use Rattle.bench.proofs.verriblom_prepare.Kinds as verriblom-prepare-kinds
-use Rattle.bench.proofs.verriblom_prepare.Reads as verriblom-prepare-reads
-use Rattle.bench.proofs.verriblom_quick.Kinds as verriblom-quick-kinds
-use Rattle.bench.proofs.verriblom_quick.Reads as verriblom-quick-reads
+use Rattle.bench.proofs.bench_exp.Kinds as bench-exp-kinds
+use Rattle.bench.proofs.bench_exp.Reads as bench-exp-reads
+use Rattle.bench.proofs.bench_ln.Kinds as bench-ln-kinds
+use Rattle.bench.proofs.bench_ln.Reads as bench-ln-reads
+use Rattle.bench.proofs.bench_root.Kinds as bench-root-kinds
+use Rattle.bench.proofs.bench_root.Reads as bench-root-reads
+use Rattle.bench.proofs.bench_pressure.Kinds as bench-pressure-kinds
+use Rattle.bench.proofs.bench_pressure.Reads as bench-pressure-reads
+use Rattle.bench.proofs.bench_entropy.Kinds as bench-entropy-kinds
+use Rattle.bench.proofs.bench_entropy.Reads as bench-entropy-reads
+use Rattle.bench.proofs.bench_isobaric.Kinds as bench-isobaric-kinds
+use Rattle.bench.proofs.bench_isobaric.Reads as bench-isobaric-reads
+use Rattle.bench.proofs.bench_sound_speed.Kinds as bench-sound-speed-kinds
+use Rattle.bench.proofs.bench_sound_speed.Reads as bench-sound-speed-reads
+use Rattle.bench.proofs.bench_isotherm.Kinds as bench-isotherm-kinds
+use Rattle.bench.proofs.bench_isotherm.Reads as bench-isotherm-reads
+use Rattle.bench.proofs.bench_plain.Kinds as bench-plain-kinds
+use Rattle.bench.proofs.bench_plain.Reads as bench-plain-reads
+use Rattle.bench.proofs.bench_plain_code.Kinds as bench-plain-code-kinds
+use Rattle.bench.proofs.bench_plain_code.Reads as bench-plain-code-reads
+use Rattle.bench.proofs.bench_plain_word.Kinds as bench-plain-word-kinds
+use Rattle.bench.proofs.bench_plain_word.Reads as bench-plain-word-reads
+use Rattle.bench.proofs.bench_prepare.Kinds as bench-prepare-kinds
+use Rattle.bench.proofs.bench_prepare.Reads as bench-prepare-reads
+use Rattle.bench.proofs.bench_quick.Kinds as bench-quick-kinds
+use Rattle.bench.proofs.bench_quick.Reads as bench-quick-reads
+use Rattle.bench.proofs.bench_quick_code.Kinds as bench-quick-code-kinds
+use Rattle.bench.proofs.bench_quick_code.Reads as bench-quick-code-reads
+use Rattle.bench.proofs.bench_quick_word.Kinds as bench-quick-word-kinds
+use Rattle.bench.proofs.bench_quick_word.Reads as bench-quick-word-reads
 
-pub verriblom-exp-one : OneResult _ verriblom-exp-kinds.ps verriblom-exp-kinds.r verriblom-exp-reads.Learnt
-verriblom-exp-one κs a x y e f p q = p ∙ sym q
+pub bench-exp-one : OneResult _ bench-exp-kinds.ps bench-exp-kinds.r bench-exp-reads.Learnt
+bench-exp-one κs a x y e f p q = p ∙ sym q
 
-pub verriblom-ln-one : OneResult _ verriblom-ln-kinds.ps verriblom-ln-kinds.r verriblom-ln-reads.Learnt
-verriblom-ln-one κs a x y e f p q = p ∙ sym q
+pub bench-ln-one : OneResult _ bench-ln-kinds.ps bench-ln-kinds.r bench-ln-reads.Learnt
+bench-ln-one κs a x y e f p q = p ∙ sym q
 
-pub verriblom-root-one : OneResult _ verriblom-root-kinds.ps verriblom-root-kinds.r verriblom-root-reads.Learnt
-verriblom-root-one κs a x y e f p q = p ∙ sym q
+pub bench-root-one : OneResult _ bench-root-kinds.ps bench-root-kinds.r bench-root-reads.Learnt
+bench-root-one κs a x y e f p q = p ∙ sym q
 
-pub verriblom-pressure-one : OneResult _ verriblom-pressure-kinds.ps verriblom-pressure-kinds.r verriblom-pressure-reads.Learnt
-verriblom-pressure-one κs a x y e f p q = p ∙ sym q
+pub bench-pressure-one : OneResult _ bench-pressure-kinds.ps bench-pressure-kinds.r bench-pressure-reads.Learnt
+bench-pressure-one κs a x y e f p q = p ∙ sym q
 
-pub verriblom-entropy-one : OneResult _ verriblom-entropy-kinds.ps verriblom-entropy-kinds.r verriblom-entropy-reads.Learnt
-verriblom-entropy-one κs a x y e f p q = p ∙ sym q
+pub bench-entropy-one : OneResult _ bench-entropy-kinds.ps bench-entropy-kinds.r bench-entropy-reads.Learnt
+bench-entropy-one κs a x y e f p q = p ∙ sym q
 
-pub verriblom-isobaric-one : OneResult _ verriblom-isobaric-kinds.ps verriblom-isobaric-kinds.r verriblom-isobaric-reads.Learnt
-verriblom-isobaric-one κs a x y e f p q = p ∙ sym q
+pub bench-isobaric-one : OneResult _ bench-isobaric-kinds.ps bench-isobaric-kinds.r bench-isobaric-reads.Learnt
+bench-isobaric-one κs a x y e f p q = p ∙ sym q
 
-pub verriblom-sound-speed-one : OneResult _ verriblom-sound-speed-kinds.ps verriblom-sound-speed-kinds.r verriblom-sound-speed-reads.Learnt
-verriblom-sound-speed-one κs a x y e f p q = p ∙ sym q
+pub bench-sound-speed-one : OneResult _ bench-sound-speed-kinds.ps bench-sound-speed-kinds.r bench-sound-speed-reads.Learnt
+bench-sound-speed-one κs a x y e f p q = p ∙ sym q
 
-pub verriblom-isotherm-one : OneResult _ verriblom-isotherm-kinds.ps verriblom-isotherm-kinds.r verriblom-isotherm-reads.Learnt
-verriblom-isotherm-one κs a x y e f p q = p ∙ sym q
+pub bench-isotherm-one : OneResult _ bench-isotherm-kinds.ps bench-isotherm-kinds.r bench-isotherm-reads.Learnt
+bench-isotherm-one κs a x y e f p q = p ∙ sym q
 
-pub verriblom-plain-below-one : OneResult _ verriblom-plain-below-kinds.ps verriblom-plain-below-kinds.r verriblom-plain-below-reads.Learnt
-verriblom-plain-below-one κs a x y e f p q = p ∙ sym q
+pub bench-plain-one : OneResult _ bench-plain-kinds.ps bench-plain-kinds.r bench-plain-reads.Learnt
+bench-plain-one κs a x y e f p q = p ∙ sym q
 
-pub verriblom-plain-above-one : OneResult _ verriblom-plain-above-kinds.ps verriblom-plain-above-kinds.r verriblom-plain-above-reads.Learnt
-verriblom-plain-above-one κs a x y e f p q = p ∙ sym q
+pub bench-plain-code-one : OneResult _ bench-plain-code-kinds.ps bench-plain-code-kinds.r bench-plain-code-reads.Learnt
+bench-plain-code-one κs a x y e f p q = p ∙ sym q
 
-pub verriblom-quick-one : OneResult _ verriblom-quick-kinds.ps verriblom-quick-kinds.r verriblom-quick-reads.Learnt
-verriblom-quick-one κs a x y e f p q = p ∙ sym q
+pub bench-plain-word-one : OneResult _ bench-plain-word-kinds.ps bench-plain-word-kinds.r bench-plain-word-reads.Learnt
+bench-plain-word-one κs a x y e f p q = p ∙ sym q
+
+pub bench-quick-one : OneResult _ bench-quick-kinds.ps bench-quick-kinds.r bench-quick-reads.Learnt
+bench-quick-one κs a x y e f p q = p ∙ sym q
+
+pub bench-quick-code-one : OneResult _ bench-quick-code-kinds.ps bench-quick-code-kinds.r bench-quick-code-reads.Learnt
+bench-quick-code-one κs a x y e f p q = p ∙ sym q
+
+pub bench-quick-word-one : OneResult _ bench-quick-word-kinds.ps bench-quick-word-kinds.r bench-quick-word-reads.Learnt
+bench-quick-word-one κs a x y e f p q = p ∙ sym q
 
 -- both lists as well
-pub verriblom-prepare-one :
-    OneOutcome _ verriblom-prepare-kinds.ps verriblom-prepare-kinds.r (List Float × List Float) (λ κs e. (now (e .1 .0), now (e .1 .1 .0))) verriblom-prepare-reads.Learnt
-verriblom-prepare-one κs a x y e f p q =
+pub bench-prepare-one :
+    OneOutcome _ bench-prepare-kinds.ps bench-prepare-kinds.r (List Float × List Float) (λ κs e. (now (e .1 .1 .0), now (e .1 .1 .1 .0))) bench-prepare-reads.Learnt
+bench-prepare-one κs a x y e f p q =
     let greatest = p .1 ∙ sym (q .1) in
     let least = p .2 ∙ sym (q .2) in
     (p .0 ∙ sym (q .0), rw (greatest, least))

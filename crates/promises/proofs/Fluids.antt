@@ -1,8 +1,8 @@
 -- Each public call of the crate `fluids` promises one outcome: its contract gives it by a definition of its arguments.
 use mathlib.Core.Path.{sym, _∙_}
 use Rattle.promises.specs.OneOutcome.{OneResult}
-use Rattle.fluids.proofs.entry.Kinds as entry-kinds
-use Rattle.fluids.proofs.entry.Reads as entry-reads
+use Rattle.fluids.proofs.single_numbers.Kinds as single-numbers-kinds
+use Rattle.fluids.proofs.single_numbers.Reads as single-numbers-reads
 use Rattle.fluids.proofs.terms.Kinds as terms-kinds
 use Rattle.fluids.proofs.terms.Reads as terms-reads
 use Rattle.fluids.proofs.pairs.Kinds as pairs-kinds
@@ -14,8 +14,8 @@ use Rattle.fluids.proofs.liquid_estimate.Reads as liquid-estimate-reads
 use Rattle.fluids.proofs.vapour_estimate.Kinds as vapour-estimate-kinds
 use Rattle.fluids.proofs.vapour_estimate.Reads as vapour-estimate-reads
 
-pub entry-one : OneResult _ entry-kinds.ps entry-kinds.r entry-reads.Learnt
-entry-one κs a x y e f p q = p ∙ sym q
+pub single-numbers-one : OneResult _ single-numbers-kinds.ps single-numbers-kinds.r single-numbers-reads.Learnt
+single-numbers-one κs a x y e f p q = p ∙ sym q
 
 pub terms-one : OneResult _ terms-kinds.ps terms-kinds.r terms-reads.Learnt
 terms-one κs a x y e f p q = p ∙ sym q

@@ -11,27 +11,29 @@ use Rattle.refusals.specs.declared.Permit.{Permit}
 use Rattle.refusals.specs.declared.Permit.the-variants.{Granted, Denied}
 use Rattle.refusals.specs.declared.Answer.{Answer}
 use Rattle.refusals.specs.Order.{permitted}
-use Rattle.arithmetic.specs.Calls.{outcomeOf}
-use Rattle.arithmetic.proofs.Answered.{HandsOutFinite, outcome-hands-out-finite}
+use Rattle.arithmetic.specs.Answered.{answerFrom}
+use Rattle.arithmetic.proofs.Answered.{HandsOutFinite, answer-from-hands-out-finite}
 use Rattle.fluids.specs.R245ca.{r245ca}
 use Rattle.equation.specs.Kept.{keptOf}
-use Rattle.equation.specs.Values.{pressureValue}
-use Rattle.equation.specs.Calls.{workedDensity, statePermit, pressureOf}
-use Rattle.search.specs.declared.Place.{Place}
-use Rattle.search.specs.declared.Place.the-variants.{At, Refused}
+use Rattle.values.specs.Values.{pressureValue}
+use Rattle.properties.specs.Calls.{workedDensity, pressureOf}
+use Rattle.inputs.specs.Inputs.{statePermit}
+use Rattle.search.specs.declared.Located.{Located}
+use Rattle.search.specs.declared.Located.the-variants.{At, Refused}
 use Rattle.search.specs.Plain.{atEnds}
 use Rattle.density.specs.declared.Side.{Side}
-use Rattle.density.specs.Steps.{stepDensityOf}
-use Rattle.density.specs.Inputs.{searchInputsOf}
+use Rattle.steps.specs.Steps.{stepDensityOf}
+use Rattle.inputs.specs.Inputs.{searchPermit}
 use Rattle.density.specs.State.{foundStateOf}
 use Rattle.density.specs.Granted.{StepInside}
-use Rattle.density.specs.Calls.{pressuresOf, plainCellOf, plainStepOf, searched, plainOf}
+use Rattle.steps.specs.Steps.{pressuresOf}
+use Rattle.density.specs.Calls.{plainCellOf, plainStepOf, searched, plainOf}
 use Rattle.density.proofs.Permitted.{question, plain-cell-crosses, step-inside}
-use Rattle.density.proofs.StepExact.{step-exact}
+use Rattle.steps.proofs.StepExact.{step-exact}
 use Rattle.records.specs.declared.Reading.{Reading}
 use Rattle.records.specs.declared.Reading.the-variants.{State, Search}
-use Rattle.density.specs.Codes.{foundAnswerOf}
-use Rattle.records.specs.Record.{readingOf, densityOf, workOf, answerOf}
+use Rattle.outcomes.specs.Codes.{foundAnswerOf}
+use Rattle.records.specs.Record.{readingOf, densityAt, workOf, answerOf}
 use Rattle.records.specs.Call.{permitOf, callOf}
 
 permitted-finite : (p : Permit) (a : Answer) → HandsOutFinite a → HandsOutFinite (permitted p a)
@@ -42,23 +44,23 @@ pressure-finite : (T ρ : Float) → HandsOutFinite (pressureOf r245ca T ρ)
 unfolding pressureOf
 pressure-finite T ρ =
     let v = pressureValue r245ca T (workedDensity ρ) in
-    permitted-finite (statePermit r245ca T ρ) (outcomeOf v) (outcome-hands-out-finite v)
+    permitted-finite (statePermit r245ca T ρ) (answerFrom v) (answer-from-hands-out-finite v)
 
 value-finite : (x : Float) (s : Bool) (n d : ℕ) → HasValue x s n d → T (finite x)
 value-finite nan s n d h = absurd h
 value-finite (inf t) s n d h = absurd h
 value-finite (fin t m e) s n d h = tt
 
-place-finite : (T : Float) (side : Side) (x : Place) → StepInside x → HandsOutFinite (foundAnswerOf (foundStateOf T side x))
+place-finite : (T : Float) (side : Side) (x : Located) → StepInside x → HandsOutFinite (foundAnswerOf (foundStateOf T side x))
 unfolding foundStateOf
 place-finite T side (At k) h = value-finite (stepDensityOf k) _ _ _ (step-exact k h)
 place-finite T side (Refused r) h = tt
 
-density-finite : (T P : Float) (side : Side) → HandsOutFinite (densityOf T P side)
-unfolding densityOf plainOf
-density-finite T P side = go (searchInputsOf T P 1664 true) refl
+density-finite : (T P : Float) (side : Side) → HandsOutFinite (densityAt T P side)
+unfolding densityAt plainOf
+density-finite T P side = go (searchPermit r245ca T P 1664 true) refl
   where
-    go : (i : Permit) → searchInputsOf T P 1664 true ≡ i →
+    go : (i : Permit) → searchPermit r245ca T P 1664 true ≡ i →
         HandsOutFinite (foundAnswerOf (searched i (foundStateOf T side (plainStepOf side (pressuresOf T) P 1664))))
     go (Denied r) e = tt
     go Granted e =

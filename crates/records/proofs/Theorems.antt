@@ -14,23 +14,24 @@ use Rattle.refusals.specs.declared.Permit.the-variants.{Granted, Denied}
 use Rattle.refusals.specs.declared.Answer.{Answer}
 use Rattle.refusals.specs.declared.Answer.the-variants.{Number, Refused}
 use Rattle.refusals.specs.Code.{answerCodeOf}
-use Rattle.refusals.specs.Order.{permitted}
+use Rattle.refusals.specs.Order.{testedOf, permitted}
 use Rattle.words.specs.Word.{bytesOf, withWord}
 use Rattle.words.proofs.Written.{bytes-length, word-written, word-not-written}
-use Rattle.arithmetic.specs.Calls.{outcomeOf}
+use Rattle.arithmetic.specs.Answered.{answerFrom}
 use Rattle.fluids.specs.R245ca.{r245ca}
-use Rattle.equation.specs.Calls.{statePermit, pressureOf, workedDensity}
-use Rattle.equation.specs.Values.{pressureValue}
+use Rattle.properties.specs.Calls.{pressureOf, workedDensity}
+use Rattle.values.specs.Values.{pressureValue}
 use Rattle.density.specs.declared.Side.{Side}
 use Rattle.density.specs.declared.Found.{Found}
-use Rattle.density.specs.Inputs.{temperaturePermittedOf, pressurePermittedOf, topPermittedOf, firstRefusalOf, searchInputsOf}
 use Rattle.density.specs.State.{foundStateOf}
-use Rattle.density.specs.Calls.{pressuresOf, plainStepOf, searched, plainOf}
+use Rattle.steps.specs.Steps.{pressuresOf}
+use Rattle.density.specs.Calls.{plainStepOf, searched, plainOf}
 use Rattle.records.specs.declared.Reading.{Reading}
 use Rattle.records.specs.declared.Reading.the-variants.{State, Search}
-use Rattle.density.specs.Codes.{foundAnswerOf}
-use Rattle.records.specs.Record.{readingOf, densityOf, workOf, answerOf}
-use Rattle.records.specs.Call.{numbersPermit, inputsOf, withRoom, permitOf, callOf, outputOf, callCode, callOutput}
+use Rattle.outcomes.specs.Codes.{foundAnswerOf}
+use Rattle.inputs.specs.Inputs.{topTest, statePermit, askedPermit, searchPermit}
+use Rattle.records.specs.Record.{readingOf, densityAt, workOf, answerOf}
+use Rattle.records.specs.Call.{inputsOf, permitOf, callOf, outputOf, callCode, callOutput}
 
 -- ---- the tests before the work are the work's own
 
@@ -42,34 +43,30 @@ found-permitted : (p : Permit) (found : Found) → foundAnswerOf (searched p fou
 found-permitted Granted found = refl
 found-permitted (Denied r) found = refl
 
-state-inputs : (T ρ : Float) → inputsOf (State T ρ) ≡ statePermit r245ca T ρ
-unfolding numbersPermit statePermit
-state-inputs T ρ = refl
-
-top-permitted : topPermittedOf 1664 ≡ true
-unfolding topPermittedOf r245ca
+top-permitted : topTest r245ca 1664 .0 ≡ true
+unfolding r245ca
 top-permitted = refl
 
-search-inputs : (T P : Float) (side : Side) → searchInputsOf T P 1664 true ≡ inputsOf (Search T P side)
-unfolding searchInputsOf firstRefusalOf temperaturePermittedOf pressurePermittedOf numbersPermit
-search-inputs T P side = simp top-permitted
+-- at the top the search has no more to ask of its inputs than the record
+search-inputs : (T P : Float) → searchPermit r245ca T P 1664 true ≡ askedPermit r245ca T P
+unfolding searchPermit askedPermit
+search-inputs T P = simp top-permitted
 
 state-work : (T ρ : Float) → permitted (inputsOf (State T ρ)) (pressureOf r245ca T ρ) ≡ pressureOf r245ca T ρ
 unfolding pressureOf
 state-work T ρ =
-    ap (λ (p : Permit). permitted p (pressureOf r245ca T ρ)) (state-inputs T ρ)
-    ∙ twice (statePermit r245ca T ρ) (outcomeOf (pressureValue r245ca T (workedDensity ρ)))
+    twice (statePermit r245ca T ρ) (answerFrom (pressureValue r245ca T (workedDensity ρ)))
 
 density-is : (T P : Float) (side : Side) →
-    densityOf T P side
+    densityAt T P side
     ≡ permitted (inputsOf (Search T P side)) (foundAnswerOf (foundStateOf T side (plainStepOf side (pressuresOf T) P 1664)))
-unfolding densityOf plainOf
+unfolding densityAt plainOf
 density-is T P side =
     let found = foundStateOf T side (plainStepOf side (pressuresOf T) P 1664) in
-    found-permitted (searchInputsOf T P 1664 true) found
-    ∙ ap (λ (p : Permit). permitted p (foundAnswerOf found)) (search-inputs T P side)
+    found-permitted (searchPermit r245ca T P 1664 true) found
+    ∙ ap (λ (p : Permit). permitted p (foundAnswerOf found)) (search-inputs T P)
 
-search-work : (T P : Float) (side : Side) → permitted (inputsOf (Search T P side)) (densityOf T P side) ≡ densityOf T P side
+search-work : (T P : Float) (side : Side) → permitted (inputsOf (Search T P side)) (densityAt T P side) ≡ densityAt T P side
 search-work T P side =
     let p = inputsOf (Search T P side) in
     let work = foundAnswerOf (foundStateOf T side (plainStepOf side (pressuresOf T) P 1664)) in
@@ -82,7 +79,7 @@ work-permitted (Reading.Refused r) = refl
 
 -- ---- the room
 
-room-last : (p : Permit) (room : ℕ) (a : Answer) → 8 ≤ room → permitted (withRoom p room) a ≡ permitted p a
+room-last : (p : Permit) (room : ℕ) (a : Answer) → 8 ≤ room → permitted (testedOf p (leb 8 room) TooShort) a ≡ permitted p a
 room-last Granted room a h = simp (le-leb 8 room h)
 room-last (Denied r) room a h = refl
 
@@ -91,7 +88,7 @@ pub with-room : (s : List ℕ) (room : ℕ) → 8 ≤ room → callOf s room ≡
 unfolding callOf permitOf answerOf
 with-room s room h = room-last (inputsOf (readingOf s)) room (workOf (readingOf s)) h ∙ work-permitted (readingOf s)
 
-no-room : (p : Permit) (room : ℕ) (a : Answer) → room < 8 → permitted (withRoom p room) a ≡ permitted p (Refused TooShort)
+no-room : (p : Permit) (room : ℕ) (a : Answer) → room < 8 → permitted (testedOf p (leb 8 room) TooShort) a ≡ permitted p (Refused TooShort)
 no-room Granted room a h = simp (lt-leb 8 room h)
 no-room (Denied r) room a h = refl
 

@@ -1,49 +1,33 @@
 -- 01, "the C call": the code and the output of a record of exactly 18 bytes and an output whose first 8 bytes get the number's
 -- bits, in 01's order: 15, 14, 1, 2, 3, 4, 5, 7, then the work.
-use mathlib.Core.Bool.{_&&_}
-use mathlib.Core.List.{List, [], _∷_}
+use mathlib.Core.List.{List}
 use Prim.Native.Nat.{ℕ}
 use lib.Dec.{leb}
-use lib.Ieee.{Float, binary64, toBits}
-use lib.Ieee.Scale.{finite}
+use lib.Ieee.{binary64, toBits}
 use lib.ListN.{length}
-use Rattle.refusals.specs.declared.Refusal.{Refusal}
-use Rattle.refusals.specs.declared.Refusal.the-variants.{InputNotFinite, TemperatureOutside, DensityOutside, PressureOutside, TooShort}
+use Rattle.refusals.specs.declared.Refusal.the-variants.{TooShort}
 use Rattle.refusals.specs.declared.Permit.{Permit}
-use Rattle.refusals.specs.declared.Permit.the-variants.{Granted, Denied}
+use Rattle.refusals.specs.declared.Permit.the-variants.{Denied}
 use Rattle.refusals.specs.declared.Answer.{Answer}
 use Rattle.refusals.specs.declared.Answer.the-variants.{Number}
 use Rattle.refusals.specs.Code.{answerCodeOf}
-use Rattle.refusals.specs.Order.{firstOf, permitted}
+use Rattle.refusals.specs.Order.{testedOf, permitted}
 use Rattle.words.specs.Word.{withWord}
-use Rattle.arithmetic.specs.Checked.{real, between}
 use Rattle.fluids.specs.R245ca.{r245ca}
+use Rattle.inputs.specs.Inputs.{statePermit, askedPermit}
 use Rattle.records.specs.declared.Reading.{Reading}
 use Rattle.records.specs.declared.Reading.the-variants.{State, Search}
 use Rattle.records.specs.Record.{readingOf, workOf}
 
--- 2, 3, and the refusal r of the second number x where it is not in least .. greatest
-unfoldable pub numbersPermit : Float → Float → Float → Float → Refusal → Permit
-numbersPermit T x least greatest r =
-    firstOf
-    ((finite T && finite x, InputNotFinite)
-    ∷ (between (r245ca .leastT) T (r245ca .greatestT), TemperatureOutside)
-    ∷ (between least x greatest, r)
-    ∷ [])
-
 -- 15, 14, 1 stand in the reading; then 2, 3, and 4 or 5
 abbrev pub inputsOf : Reading → Permit
-inputsOf (State T ρ) = numbersPermit T ρ (real 0) (r245ca .greatestρ) DensityOutside
-inputsOf (Search T P side) = numbersPermit T P (r245ca .leastP) (r245ca .greatestP) PressureOutside
+inputsOf (State T ρ) = statePermit r245ca T ρ
+inputsOf (Search T P side) = askedPermit r245ca T P
 inputsOf (Reading.Refused r) = Denied r
 
 -- 7 after those: an output under 8 bytes
-abbrev pub withRoom : Permit → ℕ → Permit
-withRoom Granted room = firstOf ((leb 8 room, TooShort) ∷ [])
-withRoom (Denied r) room = Denied r
-
 unfoldable pub permitOf : Reading → ℕ → Permit
-permitOf asked room = withRoom (inputsOf asked) room
+permitOf asked room = testedOf (inputsOf asked) (leb 8 room) TooShort
 
 -- what is handed out for the record s where the output has room bytes
 unfoldable pub callOf : List ℕ → ℕ → Answer

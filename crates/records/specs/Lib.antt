@@ -1,5 +1,2 @@
-pub mod Call
-pub mod Letters
-pub mod Lines
 pub mod Record
-pub mod Text
+pub mod Call

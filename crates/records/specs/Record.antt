@@ -10,11 +10,11 @@ use Rattle.refusals.specs.declared.Refusal.the-variants.{NoReading, UnknownMark
 use Rattle.refusals.specs.declared.Answer.{Answer}
 use Rattle.words.specs.Word.{byteAt, wordOf}
 use Rattle.fluids.specs.R245ca.{r245ca}
-use Rattle.equation.specs.Calls.{pressureOf}
+use Rattle.properties.specs.Calls.{pressureOf}
 use Rattle.density.specs.declared.Side.{Side}
 use Rattle.density.specs.declared.Side.the-variants.{FromBelow, FromAbove}
 use Rattle.density.specs.Calls.{plainOf}
-use Rattle.density.specs.Codes.{foundAnswerOf}
+use Rattle.outcomes.specs.Codes.{foundAnswerOf}
 use Rattle.records.specs.declared.Mark.{Mark}
 use Rattle.records.specs.declared.Mark.the-variants.{TD, TB, TA, TP, TN, Unknown}
 use Rattle.records.specs.declared.Reading.{Reading}
@@ -55,12 +55,12 @@ readingOf s = cond (eqb (length s) 18) (askedBy (markOf s) s) (Reading.Refused C
 -- ---- the answer
 
 -- searches here use c = 1,664
-unfoldable pub densityOf : Float → Float → Side → Answer
-densityOf T P side = foundAnswerOf (plainOf T P 1664 side)
+unfoldable pub densityAt : Float → Float → Side → Answer
+densityAt T P side = foundAnswerOf (plainOf T P 1664 side)
 
 abbrev pub workOf : Reading → Answer
 workOf (State T ρ) = pressureOf r245ca T ρ
-workOf (Search T P side) = densityOf T P side
+workOf (Search T P side) = densityAt T P side
 workOf (Reading.Refused r) = Answer.Refused r
 
 unfoldable pub answerOf : List ℕ → Answer

@@ -5,8 +5,8 @@ use Rattle.refusals.specs.declared.Permit.the-variants.{Granted}
 use Rattle.refusals.proofs.Needed.{test-passed}
 use Rattle.arithmetic.proofs.Operations.{squash-finite}
 use Rattle.fluids.specs.Fluid.{Fluid}
-use Rattle.fluids.proofs.Sound.{Finite}
-use Rattle.saturation.specs.Calls.{saturationPermit}
+use Rattle.fluids.specs.Finite.{Finite}
+use Rattle.inputs.specs.Inputs.{saturationPermit}
 
 pub saturation-finite : (F : Fluid) (t : Float) → saturationPermit F t ≡ Granted → Finite t
 unfolding saturationPermit

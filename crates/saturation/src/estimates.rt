@@ -1,30 +1,25 @@
 // The estimates of 01, term by term. ln θ is worked once.
-use arithmetic::exp;
-use arithmetic::ln;
+use elementary::ln;
+use exponentials::exp;
 use fluids::Estimate;
 ghost use mathlib.Core.Path.{_≡_};
-ghost use Rattle.arithmetic.specs.Checked.{squash, real};
-ghost use Rattle.arithmetic.specs.Ln.{lnOf};
-ghost use Rattle.arithmetic.specs.Power.{powerOf};
+ghost use Prim.Native.Nat.{_+_, _≤_};
+ghost use lib.Ieee.{nan};
+ghost use lib.ListN.{getD};
+ghost use Rattle.arithmetic.specs.Checked.{squash};
+ghost use Rattle.arithmetic.specs.Lanes.{atEach};
+ghost use Rattle.elementary.specs.Ln.{lnOf};
+ghost use Rattle.elementary.specs.Power.{powerOf};
+ghost use Rattle.fluids.specs.declared.Estimate.the-variants.{Alone};
 ghost use Rattle.fluids.specs.R245ca.{r245ca};
-ghost use Rattle.fluids.proofs.Sound.{Finite, FiniteEstimate};
+ghost use Rattle.fluids.specs.Finite.{Finite, FiniteEstimate};
 ghost use Rattle.saturation.specs.Estimates as Estimates;
 
-// θ and ln θ.
-struct Reduced {
-    theta: f64,
-    y: f64,
-}
-
-fn reduced_at(t: f64) -> Reduced
-    requires { ⌜ Finite t ⌝ }
-    ensures { λ r. ⌜ (squash (r .theta) ≡ Estimates.thetaOf r245ca t) × (r .y ≡ lnOf (r .theta)) ⌝ }
-{
-    let entry = fluids::entry();
-    let critical = entry.critical_temperature;
-    let theta = 1.0 - t / critical;
-    let y = ln(theta);
-    Reduced { theta, y }
+// The three estimates.
+pub(crate) enum Curve {
+    Pressure,
+    Liquid,
+    Vapour,
 }
 
 // θ to the power t: exp(t·ln θ), and 0 for θ = 0.
@@ -48,96 +43,57 @@ fn term_value(term: Estimate, theta: f64, y: f64) -> f64
     }
 }
 
-// The pressure's terms, from the first on.
-fn pressure_sum(theta: f64, y: f64) -> f64
-    requires { ⌜ y ≡ lnOf theta ⌝ }
-    ensures { λ r. ⌜
-        squash r
-        ≡ Estimates.plusTerms (squash theta) (r245ca .pressureTerms) (Estimates.termAt (squash theta) (r245ca .pressureTerms) 0) 1 3 ⌝ }
+// `first` and the `count` terms from the place `from` on, one after the other.
+fn sum_of(terms: [Estimate; 5], first: f64, from: usize, count: usize, theta: f64, y: f64) -> f64
+    requires { ⌜ atEach 5 (λ i. FiniteEstimate (getD terms i (Alone nan))) × (y ≡ lnOf theta) × (from + count ≤ 5) ⌝ }
+    ensures { λ r. ⌜ squash r ≡ Estimates.plusTerms (squash theta) terms (squash first) from count ⌝ }
 {
-    let terms = fluids::pressure_estimate();
+    let mut sum = first;
+    let mut n: usize = 0;
+    while n < count {
+        let at = from + n;
+        let term = terms[at];
+        sum = sum + term_value(term, theta, y);
+        n += 1;
+    }
+    sum
+}
+
+// Four terms in a table of five: the fourth stands twice.
+fn padded(terms: [Estimate; 4]) -> [Estimate; 5]
+    ensures { λ r. ⌜ r ≡ Estimates.padded terms ⌝ }
+{
     let first = terms[0];
-    let mut sum = term_value(first, theta, y);
-    let mut n: usize = 0;
-    while n < 3 {
-        let at = 1 + n;
-        let term = terms[at];
-        sum = sum + term_value(term, theta, y);
-        n += 1;
-    }
-    sum
+    let second = terms[1];
+    let third = terms[2];
+    let fourth = terms[3];
+    [first, second, third, fourth, fourth]
 }
 
-// 1 and the liquid's terms.
-fn liquid_sum(theta: f64, y: f64) -> f64
-    requires { ⌜ y ≡ lnOf theta ⌝ }
-    ensures { λ r. ⌜ squash r ≡ Estimates.plusTerms (squash theta) (r245ca .liquidTerms) (real 1) 0 5 ⌝ }
-{
-    let terms = fluids::liquid_estimate();
-    let mut sum = 1.0;
-    let mut n: usize = 0;
-    while n < 5 {
-        let at = 0 + n;
-        let term = terms[at];
-        sum = sum + term_value(term, theta, y);
-        n += 1;
-    }
-    sum
-}
-
-// The vapour's terms, from the first on.
-fn vapour_sum(theta: f64, y: f64) -> f64
-    requires { ⌜ y ≡ lnOf theta ⌝ }
-    ensures { λ r. ⌜
-        squash r
-        ≡ Estimates.plusTerms (squash theta) (r245ca .vapourTerms) (Estimates.termAt (squash theta) (r245ca .vapourTerms) 0) 1 4 ⌝ }
-{
-    let terms = fluids::vapour_estimate();
-    let first = terms[0];
-    let mut sum = term_value(first, theta, y);
-    let mut n: usize = 0;
-    while n < 4 {
-        let at = 1 + n;
-        let term = terms[at];
-        sum = sum + term_value(term, theta, y);
-        n += 1;
-    }
-    sum
-}
-
-pub(crate) fn pressure_value(t: f64) -> f64
+// The estimate of a curve at T.
+pub(crate) fn value_of(curve: Curve, t: f64) -> f64
     requires { ⌜ Finite t ⌝ }
-    ensures { λ r. ⌜ squash r ≡ Estimates.pressureEstimate r245ca t ⌝ }
+    ensures { λ r. ⌜ squash r ≡ Estimates.estimateOf r245ca t curve ⌝ }
 {
-    let entry = fluids::entry();
-    let critical = entry.critical_temperature;
-    let highest = entry.critical_pressure;
-    let reduced = reduced_at(t);
-    let theta = reduced.theta;
-    let y = reduced.y;
-    highest * exp((critical / t) * pressure_sum(theta, y))
-}
-
-pub(crate) fn liquid_value(t: f64) -> f64
-    requires { ⌜ Finite t ⌝ }
-    ensures { λ r. ⌜ squash r ≡ Estimates.liquidEstimate r245ca t ⌝ }
-{
-    let entry = fluids::entry();
-    let density = entry.critical_density;
-    let reduced = reduced_at(t);
-    let theta = reduced.theta;
-    let y = reduced.y;
-    density * liquid_sum(theta, y)
-}
-
-pub(crate) fn vapour_value(t: f64) -> f64
-    requires { ⌜ Finite t ⌝ }
-    ensures { λ r. ⌜ squash r ≡ Estimates.vapourEstimate r245ca t ⌝ }
-{
-    let entry = fluids::entry();
-    let density = entry.critical_density;
-    let reduced = reduced_at(t);
-    let theta = reduced.theta;
-    let y = reduced.y;
-    density * exp(vapour_sum(theta, y))
+    let numbers = fluids::single_numbers();
+    let critical = numbers.critical_temperature;
+    let highest = numbers.critical_pressure;
+    let density = numbers.critical_density;
+    let theta = 1.0 - t / critical;
+    let y = ln(theta);
+    match curve {
+        Curve::Pressure => {
+            let terms = padded(fluids::pressure_estimate());
+            let term = terms[0];
+            let first = term_value(term, theta, y);
+            highest * exp((critical / t) * sum_of(terms, first, 1, 3, theta, y))
+        },
+        Curve::Liquid => density * sum_of(fluids::liquid_estimate(), 1.0, 0, 5, theta, y),
+        Curve::Vapour => {
+            let terms = fluids::vapour_estimate();
+            let term = terms[0];
+            let first = term_value(term, theta, y);
+            density * exp(sum_of(terms, first, 1, 4, theta, y))
+        },
+    }
 }

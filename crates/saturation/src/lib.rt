@@ -1,68 +1,44 @@
 // 01, "Saturation estimates": pressure, liquid and vapour density at a temperature. Units: K, Pa, mol/dm³.
 mod estimates;
 
-use arithmetic::between;
-use arithmetic::finite;
-use arithmetic::outcome;
-use estimates::liquid_value;
-use estimates::pressure_value;
-use estimates::vapour_value;
+use arithmetic::answer_from;
+use estimates::Curve;
+use estimates::value_of;
+use inputs::saturation_inputs;
 use refusals::Answer;
 use refusals::Permit;
-use refusals::Refusal;
 ghost use mathlib.Core.Path.{_≡_};
 ghost use Rattle.fluids.specs.R245ca.{r245ca};
 ghost use Rattle.saturation.specs.Calls as Calls;
 
-// 2, 3, 13.
-fn permit_of(t: f64) -> Permit
-    ensures { λ r. ⌜ r ≡ Calls.saturationPermit r245ca t ⌝ }
+// The estimate of a curve at T: 2, 3, 13, 12; 12 never occurs (docs/NO-ANSWER.md).
+fn answer_of(curve: Curve, t: f64) -> Answer
+    ensures { λ r. ⌜ r ≡ Calls.curveOf r245ca t curve ⌝ }
 {
-    let entry = fluids::entry();
-    let least = entry.least_temperature;
-    let greatest = entry.greatest_temperature;
-    let critical = entry.critical_temperature;
-    if finite(t) {
-        if between(least, t, greatest) {
-            if t <= critical {
-                return Permit::Granted;
-            }
-            return Permit::Denied(Refusal::AboveCritical);
-        }
-        return Permit::Denied(Refusal::TemperatureOutside);
+    let permit = saturation_inputs(t);
+    match permit {
+        Permit::Granted => answer_from(value_of(curve, t)),
+        Permit::Denied(r) => Answer::Refused(r),
     }
-    Permit::Denied(Refusal::InputNotFinite)
 }
 
-// The estimate of the saturation pressure at T: 2, 3, 13, 12.
+// The estimate of the saturation pressure at T: 2, 3, 13, 12; 12 never occurs (docs/NO-ANSWER.md).
 pub fn saturation_pressure(t: f64) -> Answer
     ensures { λ r. ⌜ r ≡ Calls.saturationPressureOf r245ca t ⌝ }
 {
-    let permit = permit_of(t);
-    match permit {
-        Permit::Granted => outcome(pressure_value(t)),
-        Permit::Denied(r) => Answer::Refused(r),
-    }
+    answer_of(Curve::Pressure, t)
 }
 
-// The estimate of the saturated liquid's density at T: 2, 3, 13, 12.
+// The estimate of the saturated liquid's density at T: 2, 3, 13, 12; 12 never occurs (docs/NO-ANSWER.md).
 pub fn saturated_liquid(t: f64) -> Answer
     ensures { λ r. ⌜ r ≡ Calls.saturatedLiquidOf r245ca t ⌝ }
 {
-    let permit = permit_of(t);
-    match permit {
-        Permit::Granted => outcome(liquid_value(t)),
-        Permit::Denied(r) => Answer::Refused(r),
-    }
+    answer_of(Curve::Liquid, t)
 }
 
-// The estimate of the saturated vapour's density at T: 2, 3, 13, 12.
+// The estimate of the saturated vapour's density at T: 2, 3, 13, 12; 12 never occurs (docs/NO-ANSWER.md).
 pub fn saturated_vapour(t: f64) -> Answer
     ensures { λ r. ⌜ r ≡ Calls.saturatedVapourOf r245ca t ⌝ }
 {
-    let permit = permit_of(t);
-    match permit {
-        Permit::Granted => outcome(vapour_value(t)),
-        Permit::Denied(r) => Answer::Refused(r),
-    }
+    answer_of(Curve::Vapour, t)
 }

@@ -2,7 +2,7 @@
 use mathlib.Core.Path.{sym}
 use native.Mathlib.Omega.{arith}
 use lib.Seq.{length-take-le}
-use Rattle.records.proofs.Printed.{lines-inside}
+use Rattle.lines.proofs.Printed.{lines-inside}
 use borrow.Author.Needs.{needs}
 use Rattle.answers.proofs.block.Statement.{statement}
 use Rattle.answers.proofs.block.Tie as tie
@@ -12,7 +12,7 @@ use Rattle.answers.proofs.line_block.Reads as line-block-reads
 use Rattle.answers.proofs.record_block.Reads as record-block-reads
 use Rattle.io.proofs.read_full.Reads as read-full-reads
 use Rattle.answers.proofs.print.Reads as print-reads
-use Rattle.records.proofs.put_lines.Reads as put-lines-reads
+use Rattle.lines.proofs.put_lines.Reads as put-lines-reads
 
 record-block-requires : tie.Need-record-block-requires
 record-block-requires c κs = search needs

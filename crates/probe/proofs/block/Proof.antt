@@ -2,7 +2,7 @@
 use mathlib.Core.Path.{sym}
 use native.Mathlib.Omega.{arith}
 use lib.Seq.{length-take-le}
-use Rattle.questions.proofs.Progress.{replies-inside}
+use Rattle.probe_replies.proofs.Progress.{replies-inside}
 use borrow.Author.Needs.{needs}
 use Rattle.probe.proofs.block.Statement.{statement}
 use Rattle.probe.proofs.block.Tie as tie
@@ -12,7 +12,7 @@ use Rattle.io.proofs.read_full.Reads as read-full-reads
 use Rattle.io.proofs.write_all.Reads as write-all-reads
 use Rattle.probe.proofs.question_block.Reads as question-block-reads
 use Rattle.probe.proofs.reply_block.Reads as reply-block-reads
-use Rattle.questions.proofs.put_replies.Reads as put-replies-reads
+use Rattle.probe_replies.proofs.put_replies.Reads as put-replies-reads
 
 question-block-requires : tie.Need-question-block-requires
 question-block-requires c κs = search needs

@@ -1,7 +1,5 @@
 -- `differs` meets its contract: the answers of both searches, compared. Assumes nothing.
-use mathlib.Core.Path.{_∙_, sym}
 use native.Mathlib.Omega.{arith}
-use Rattle.isotherm.specs.Pairs.{differsAt}
 use Rattle.isotherm.proofs.Counted.{same-counts-0, other-counts-1}
 use borrow.Author.Needs.{needs}
 use Rattle.isotherm.proofs.pairs.differs.Statement.{statement}

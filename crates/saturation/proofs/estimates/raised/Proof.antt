@@ -3,17 +3,18 @@ use mathlib.Core.Path.{_≡_, sym, _∙_, ap}
 use mathlib.Core.Bool.{true, false}
 use lib.Ieee.{Float, binary64, ofBits, eq}
 use Rattle.arithmetic.specs.Checked.{real, _⊗_}
-use Rattle.arithmetic.specs.Exp.{expOf}
-use Rattle.arithmetic.specs.Ln.{lnOf}
-use Rattle.arithmetic.specs.Power.{powerOf}
+use Rattle.exponentials.specs.Exp.{expOf}
+use Rattle.elementary.specs.Ln.{lnOf}
+use Rattle.elementary.specs.Power.{powerOf}
 use Rattle.arithmetic.proofs.Literals.{lit-0}
-use Rattle.arithmetic.proofs.Ranges.{exp-squash, power-squash}
+use Rattle.exponentials.proofs.ExpRange.{exp-squash}
+use Rattle.elementary.proofs.Ranges.{power-squash}
 use borrow.Author.Needs.{needs}
 use Rattle.saturation.proofs.estimates.raised.Statement.{statement}
 use Rattle.saturation.proofs.estimates.raised.Tie as tie
 use Rattle.saturation.proofs.estimates.raised.Reads as reads
 use Rattle.saturation.proofs.estimates.raised.Lts as lts
-use Rattle.arithmetic.proofs.exp.Reads as exp-reads
+use Rattle.exponentials.proofs.exp.Reads as exp-reads
 
 zero : (x t : Float) → eq x (real 0) ≡ true → ofBits binary64 0 ≡ powerOf x t
 unfolding powerOf

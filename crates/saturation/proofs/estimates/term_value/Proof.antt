@@ -1,8 +1,8 @@
 -- `term_value` meets its contract, by the two kinds of a term. Assumes nothing.
 use mathlib.Core.Path.{sym, ap, subst}
 use Rattle.arithmetic.proofs.Operations.{squash-mul}
-use Rattle.arithmetic.proofs.Ranges.{power-squashed}
-use Rattle.fluids.proofs.Sound.{FiniteEstimate}
+use Rattle.elementary.proofs.Ranges.{power-squashed}
+use Rattle.fluids.specs.Finite.{FiniteEstimate}
 use Rattle.saturation.specs.Estimates.{termOf}
 use borrow.Author.Needs.{needs}
 use Rattle.saturation.proofs.estimates.term_value.Statement.{statement}

@@ -1,0 +1,6 @@
+-- `bench_plain` meets its contract: what its three calls promise, each put into the next. Assumes nothing.
+use Rattle.bench.proofs.bench_plain.Statement.{statement}
+use Rattle.bench.proofs.bench_plain.Tie as tie
+
+pub bench-plain-spec : {M : Type 1} → statement M
+bench-plain-spec = tie.close (tie.spec (λ c κs. tt) (λ c κs. tt) (λ c κs. tt) (λ c. cc))

@@ -1,0 +1,6 @@
+-- `bench_sound_speed` meets its contract: what its two calls promise, each put into the next. Assumes nothing.
+use Rattle.bench.proofs.bench_sound_speed.Statement.{statement}
+use Rattle.bench.proofs.bench_sound_speed.Tie as tie
+
+pub bench-sound-speed-spec : {M : Type 1} → statement M
+bench-sound-speed-spec = tie.close (tie.spec (λ c κs. tt) (λ c κs. tt) (λ c. cc))

@@ -1,0 +1,52 @@
+-- The three saturation estimates never refuse with 12: where the call is permitted T is in the range over which they are finite.
+use mathlib.Core.Path.{_≡_}
+use mathlib.Core.List.{[], _∷_}
+use lib.Dec.{T}
+use lib.Ieee.{Float, le}
+use lib.Ieee.Fits.{and-l}
+use lib.Ieee.Scale.{finite}
+use Rattle.refusals.specs.declared.Refusal.the-variants.{InputNotFinite, TemperatureOutside, AboveCritical, WorkNotFinite}
+use Rattle.refusals.specs.declared.Permit.the-variants.{Granted, Denied}
+use Rattle.refusals.specs.declared.Answer.the-variants.{Refused}
+use Rattle.refusals.specs.Order.{firstOf}
+use Rattle.refusals.proofs.Needed.{test-passed, rest-granted}
+use Rattle.arithmetic.specs.Checked.{between}
+use Rattle.arithmetic.proofs.Order as tests
+use Rattle.fluids.specs.Fluid.{Fluid}
+use Rattle.saturation.specs.Estimates.{pressureEstimate, liquidEstimate, vapourEstimate}
+use Rattle.inputs.specs.Inputs.{saturationPermit}
+use Rattle.saturation.specs.Calls.{saturationPressureOf, saturatedLiquidOf, saturatedVapourOf}
+use Rattle.intervals.proofs.Fractions.{holds}
+use Rattle.refusals.proofs.InOrder.{never-denied}
+use Rattle.bounds.proofs.Permits.{never-12}
+use Rattle.ranges.proofs.Estimates.{estimateEnds, estimatesKnown, estimates-finite}
+
+module _ (F : Fluid) (fine : T (estimateEnds F)) (ok : T (estimatesKnown F)) (t : Float) where
+  saturation-granted : saturationPermit F t ≡ Granted → T (le (F .leastT) t) × T (le t (F .Tc))
+  unfolding saturationPermit
+  saturation-granted p =
+      let last = firstOf ((le t (F .Tc), AboveCritical) ∷ []) in
+      let inner = firstOf ((between (F .leastT) t (F .greatestT), TemperatureOutside) ∷ (le t (F .Tc), AboveCritical) ∷ []) in
+      let q = rest-granted (finite t) inner InputNotFinite p in (
+        and-l (le (F .leastT) t) (le t (F .greatestT)) (holds (between (F .leastT) t (F .greatestT)) (test-passed _ last TemperatureOutside q)),
+        holds (le t (F .Tc)) (test-passed _ Granted AboveCritical (rest-granted (between (F .leastT) t (F .greatestT)) last TemperatureOutside q)),
+      )
+
+  saturation-denied : saturationPermit F t ≡ Denied WorkNotFinite → ⊥
+  unfolding saturationPermit
+  saturation-denied = never-denied WorkNotFinite ((finite t, InputNotFinite) ∷ (between (F .leastT) t (F .greatestT), TemperatureOutside) ∷ (le t (F .Tc), AboveCritical) ∷ []) tt
+
+  pub granted-finite : saturationPermit F t ≡ Granted → T (finite (pressureEstimate F t)) × T (finite (liquidEstimate F t)) × T (finite (vapourEstimate F t))
+  granted-finite g = let (low, high) = saturation-granted g in estimates-finite F fine ok t low high
+
+  pub saturation-pressure-never-12 : saturationPressureOf F t ≡ Refused WorkNotFinite → ⊥
+  unfolding saturationPressureOf
+  saturation-pressure-never-12 = never-12 (saturationPermit F t) (pressureEstimate F t) saturation-denied (λ g. granted-finite g .0)
+
+  pub saturated-liquid-never-12 : saturatedLiquidOf F t ≡ Refused WorkNotFinite → ⊥
+  unfolding saturatedLiquidOf
+  saturated-liquid-never-12 = never-12 (saturationPermit F t) (liquidEstimate F t) saturation-denied (λ g. granted-finite g .1)
+
+  pub saturated-vapour-never-12 : saturatedVapourOf F t ≡ Refused WorkNotFinite → ⊥
+  unfolding saturatedVapourOf
+  saturated-vapour-never-12 = never-12 (saturationPermit F t) (vapourEstimate F t) saturation-denied (λ g. granted-finite g .2)

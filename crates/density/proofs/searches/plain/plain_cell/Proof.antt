@@ -1,0 +1,48 @@
+-- `plain_cell` meets its contract, by the side. Assumes nothing.
+use mathlib.Core.Path.{sym, ap, _∙_}
+use Rattle.search.specs.Plain.{atEnds}
+use Rattle.density.specs.declared.Side.{Side}
+use Rattle.steps.specs.Steps.{stepPressureOf}
+use Rattle.density.specs.Calls.{plainCellOf}
+use borrow.Author.Needs.{needs}
+use Rattle.density.proofs.searches.plain.plain_cell.Statement.{statement}
+use Rattle.density.proofs.searches.plain.plain_cell.Tie as tie
+use Rattle.density.proofs.searches.plain.plain_cell.Reads as reads
+use Rattle.density.proofs.searches.plain.plain_cell.Lts as lts
+use Rattle.density.proofs.searches.plain.cell_from_above.Reads as cell-from-above-reads
+use Rattle.density.proofs.searches.plain.cell_from_below.Reads as cell-from-below-reads
+
+enum-told : tie.Need-enum-told
+enum-told c = search needs
+
+cell-from-below-requires : tie.Need-cell-from-below-requires
+cell-from-below-requires c κs = search needs
+
+enum-told-2 : tie.Need-enum-told-2
+enum-told-2 c = search needs
+
+cell-from-above-requires : tie.Need-cell-from-above-requires
+cell-from-above-requires c κs = search needs
+
+returns : tie.Need-returns
+returns c =
+    let a = c .before .before .before .args in
+    c .cell-from-below .ensures
+    ∙ ap (λ (s : Side). plainCellOf s (atEnds (stepPressureOf (a .kept))) (a .p) (a .c)) (sym (c .before .enum-told .given .1))
+
+returns-2 : tie.Need-returns-2
+returns-2 c =
+    let a = c .before .before .before .args in
+    c .cell-from-above .ensures
+    ∙ ap (λ (s : Side). plainCellOf s (atEnds (stepPressureOf (a .kept))) (a .p) (a .c)) (sym (c .before .enum-told2 .given .1))
+
+pub plain-cell-spec : {M : Type 1} → statement M
+plain-cell-spec =
+    tie.close
+    (tie.spec
+    enum-told
+    cell-from-below-requires
+    enum-told-2
+    cell-from-above-requires
+    returns
+    returns-2)

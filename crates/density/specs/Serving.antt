@@ -1,0 +1,26 @@
+-- Lists that are kept while a temperature stays the same: when two lists serve T and c.
+use mathlib.Core.Path.{_≡_}
+use mathlib.Core.List.{List}
+use Prim.Native.Nat.{ℕ, _+_}
+use lib.ListN.{length, replicate}
+use lib.Ieee.{Float}
+use Rattle.arithmetic.specs.Checked.{real}
+use Rattle.density.specs.declared.Side.{Side}
+use Rattle.preparation.specs.Prepare.{greatestAfter, leastAfter}
+use Rattle.density.specs.Calls.{quickOf}
+
+-- the lists that a preparation of c cells at T leaves of two lists of c + 1 zeros
+unfoldable pub zeros : ℕ → List Float
+zeros c = replicate (c + 1) (real 0)
+
+abbrev pub greatestAt : Float → ℕ → List Float
+greatestAt T c = greatestAfter T c (zeros c) (zeros c)
+
+abbrev pub leastAt : Float → ℕ → List Float
+leastAt T c = leastAfter T c (zeros c) (zeros c)
+
+-- two lists of c + 1 places over which each quick search at T ends as over the lists prepared for T
+pub record Serves (T : Float) (c : ℕ) (G L : List Float) : Type 0 where
+  pub places-greatest : length G ≡ c + 1
+  pub places-least : length L ≡ c + 1
+  pub alike : (P : Float) (side : Side) → quickOf T P c side G L ≡ quickOf T P c side (greatestAt T c) (leastAt T c)

@@ -1,0 +1,51 @@
+// 01, "In the cell".
+use equation::Kept;
+use refusals::Refusal;
+use search::Located;
+use steps::step_pressure;
+ghost use mathlib.Core.Path.{_≡_};
+ghost use lib.Ieee.{isNan};
+ghost use mathlib.Core.Bool.{false};
+ghost use Rattle.search.specs.InCell.{Bracket, halved, inCell};
+ghost use Rattle.steps.specs.Steps.{stepPressureOf};
+ghost use Rattle.density.specs.Granted.{CellCrosses};
+
+// Halves the steps lower..upper, `left` times more: the middle becomes the lower end if its pressure is ≤ p, else the upper.
+fn halve(kept: Kept, p: f64, lower: usize, upper: usize, left: usize) -> Located
+    requires { ⌜ (isNan p ≡ false) × Bracket (stepPressureOf kept) p left lower upper ⌝ }
+    ensures { λ r. ⌜ r ≡ halved (stepPressureOf kept) p left lower upper ⌝ }
+{
+    if left == 0 {
+        let apart = upper - lower;
+        if apart == 1 {
+            return Located::At(lower);
+        }
+        return Located::Refused(Refusal::NotNeighbours);
+    }
+    let middle = (lower + upper) / 2;
+    let pressure = step_pressure(kept, middle);
+    if pressure != pressure {
+        return Located::Refused(Refusal::WorkNotFinite);
+    }
+    let fewer = left - 1;
+    if pressure <= p {
+        halve(kept, p, middle, upper, fewer)
+    } else {
+        halve(kept, p, lower, middle, fewer)
+    }
+}
+
+// 23 halvings of the found cell; a refusal stays.
+pub(crate) fn step_in_cell(kept: Kept, p: f64, cell: Located) -> Located
+    requires { ⌜ (isNan p ≡ false) × CellCrosses (stepPressureOf kept) p cell ⌝ }
+    ensures { λ r. ⌜ r ≡ inCell (stepPressureOf kept) p cell ⌝ }
+{
+    match cell {
+        Located::At(j) => {
+            let lower = j * 8388608;
+            let upper = (j + 1) * 8388608;
+            halve(kept, p, lower, upper, 23)
+        }
+        Located::Refused(r) => Located::Refused(r),
+    }
+}

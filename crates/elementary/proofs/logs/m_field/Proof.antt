@@ -1,0 +1,15 @@
+-- `m_field` meets its contract: its test is that of `mField`. Assumes nothing.
+use borrow.Author.Tests.{lt-ltb, le-ltb}
+use Rattle.elementary.proofs.logs.m_field.Statement.{statement}
+use Rattle.elementary.proofs.logs.m_field.Tie as tie
+use Rattle.elementary.proofs.logs.m_field.Reads as reads
+use Rattle.elementary.proofs.logs.m_field.Lts as lts
+
+returns : tie.Need-returns
+returns c = simp (lt-ltb _ _ (c .if1 .taken))
+
+returns-2 : tie.Need-returns-2
+returns-2 c = simp (le-ltb _ _ (c .if1 .left))
+
+pub m-field-spec : {M : Type 1} → statement M
+m-field-spec = tie.close (tie.spec returns returns-2)

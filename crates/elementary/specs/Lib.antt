@@ -1,0 +1,4 @@
+pub mod Ln
+pub mod Root
+pub mod Power
+pub mod Calls

@@ -1,0 +1,19 @@
+// The pressure at a density, for the temperature that is kept.
+use crate::kept::Kept;
+use crate::sums::summed;
+use arithmetic::squash;
+ghost use mathlib.Core.Path.{_≡_};
+ghost use Rattle.fluids.specs.R245ca.{r245ca};
+ghost use Rattle.equation.specs.Kept.{pressureAt};
+
+// The pressure at a density, Pa, for the temperature that is kept; one NaN where 12 is owed.
+pub fn pressure_at(kept: Kept, rho: f64) -> f64
+    ensures { λ r. ⌜ r ≡ pressureAt r245ca kept rho ⌝ }
+{
+    let numbers = fluids::single_numbers();
+    let gas = numbers.gas;
+    let t = kept.t;
+    let delta = rho / numbers.critical_density;
+    let s = summed(kept, delta);
+    squash(((rho * 1000.0) * (gas * t)) * (1.0 + s.s1))
+}

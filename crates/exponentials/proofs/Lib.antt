@@ -1,0 +1,4 @@
+pub mod Literals
+pub mod ExpTurn
+pub mod ExpWorked
+pub mod ExpRange

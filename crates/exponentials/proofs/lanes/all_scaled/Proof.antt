@@ -1,0 +1,73 @@
+-- `all_scaled` meets its contract: each place is worked by itself. The measure is what is left of the places. Assumes nothing.
+use mathlib.Core.Path.{_≡_, refl}
+use mathlib.Core.List.{List}
+use Prim.Native.Nat.{ℕ, _≤_, _-_}
+use native.Mathlib.Omega.{arith}
+use borrow.Author.Needs.{needs}
+use lib.Ieee.{Float}
+use Rattle.arithmetic.specs.Checked.{squash, real, two⁻, within, minus, _⊗_}
+use Rattle.arithmetic.specs.Lanes.{lane}
+use Rattle.arithmetic.proofs.Places.{Worked, none-worked, one-worked, all-worked}
+use Rattle.exponentials.proofs.lanes.all_scaled.Statement.{statement}
+use Rattle.exponentials.proofs.lanes.all_scaled.Tie as tie
+use Rattle.exponentials.proofs.lanes.all_scaled.Reads as reads
+use Rattle.exponentials.proofs.lanes.all_scaled.Lts as lts
+use Rattle.exponentials.proofs.exps.scaled.Reads as scaled-reads
+
+abbrev Done : List Float → ℕ → Float → Type 0
+Done x k v = squash v ≡ squash (within (minus (real 700)) (real 700) (lane x k) (lane x k)) ⊗ two⁻ 10
+
+abbrev Inv-loop : tie.InvT-loop
+Inv-loop x y₀ i₀ y i = (i ≤ 7) × Worked 7 (Done x) (λ k v. Unit {0}) i y
+
+abbrev μ-loop : tie.MeasureT-loop
+μ-loop x y₀ i₀ y i = 7 - i
+
+loop-holds : tie.Need-loop-holds Inv-loop μ-loop
+loop-holds c = (omega arith, none-worked 7 _ _ _ refl (λ k p. tt))
+
+mul-scaled : tie.Need-mul-scaled Inv-loop μ-loop
+mul-scaled c = search needs
+
+array-read-scaled : tie.Need-array-read-scaled Inv-loop μ-loop
+array-read-scaled c = search needs
+
+scaled-requires : tie.Need-scaled-requires Inv-loop μ-loop
+scaled-requires c κs = search needs
+
+mul-y : tie.Need-mul-y Inv-loop μ-loop
+mul-y c = search needs
+
+array-write-y : tie.Need-array-write-y Inv-loop μ-loop
+array-write-y c = search needs
+
+add-i : tie.Need-add-i Inv-loop μ-loop
+add-i c = search needs
+
+loop-less : tie.Need-loop-less Inv-loop μ-loop
+loop-less c = search needs
+
+loop-again : tie.Need-loop-again Inv-loop μ-loop
+loop-again c =
+    let at = c .before .before in
+    (omega arith, one-worked _ _ _ _ _ _ (at .loop .inv .1) (c .before .loop-test .taken) (c .scaled .ensures))
+
+returns : tie.Need-returns Inv-loop μ-loop
+returns c = all-worked _ _ _ _ _ (c .before .loop .inv .1) (omega arith)
+
+pub all-scaled-spec : {M : Type 1} → statement M
+all-scaled-spec =
+    tie.close
+    (tie.spec
+    Inv-loop
+    μ-loop
+    loop-holds
+    mul-scaled
+    array-read-scaled
+    scaled-requires
+    mul-y
+    array-write-y
+    add-i
+    loop-less
+    loop-again
+    returns)

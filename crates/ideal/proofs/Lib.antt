@@ -1,0 +1,3 @@
+mod Pairs
+mod Total
+pub mod Settled

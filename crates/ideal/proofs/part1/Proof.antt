@@ -1,0 +1,37 @@
+-- `part1` meets its contract: squash goes through each operation, and the divisor, which is worked, is tested. Assumes nothing.
+use mathlib.Core.Path.{_≡_, sym, _∙_, ap}
+use borrow.Author.Needs.{needs}
+use lib.Ieee.{Float}
+use Rattle.arithmetic.specs.Checked.{_⊘_}
+use Rattle.exponentials.specs.Exp.{expOf}
+use Rattle.arithmetic.proofs.Operations.{squash-mul, squash-sub, squash-over, ⊘-squashed}
+use Rattle.arithmetic.proofs.Forced.{forced}
+use Rattle.exponentials.proofs.ExpRange.{exp-squash, exp-squashed}
+use Rattle.arithmetic.proofs.Literals.{lit-1, squash-1}
+use Rattle.ideal.specs.Ideal.{part1}
+use Rattle.ideal.proofs.part1.Statement.{statement}
+use Rattle.ideal.proofs.part1.Tie as tie
+use Rattle.ideal.proofs.part1.Reads as reads
+use Rattle.ideal.proofs.part1.Lts as lts
+use Rattle.exponentials.proofs.exp.Reads as exp-reads
+use Rattle.arithmetic.proofs.over.Reads as over-reads
+
+exp-requires : tie.Need-exp-requires
+exp-requires c κs = search needs
+
+over-requires : tie.Need-over-requires
+over-requires c κs = search needs
+
+returns : tie.Need-returns
+unfolding part1
+returns c =
+    let worked = c .before in
+    let start = worked .before in
+    let t = start .args .t in
+    let w : worked .exp .result ≡ expOf (start .args .pair .u ⊘ t) =
+    worked .exp .ensures ∙ sym (exp-squash _) ∙ ap expOf (squash-over _ _ ∙ ap (λ (z : Float). z ⊘ t) (start .pre .1)) in
+    simp
+    (c .over .ensures, ⊘-squashed, squash-mul, squash-sub, w, exp-squashed, squash-over, start .pre .0, start .pre .1, lit-1, squash-1, forced)
+
+pub part1-spec : {M : Type 1} → statement M
+part1-spec = tie.close (tie.spec exp-requires over-requires returns)

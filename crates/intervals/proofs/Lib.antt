@@ -1,0 +1,12 @@
+pub mod Fractions
+pub mod Rounding
+pub mod Interval
+pub mod Representable
+pub mod Sum
+pub mod Product
+pub mod Quotient
+pub mod Functions
+pub mod Exponents
+pub mod Logarithm
+pub mod Cancellation
+pub mod Elementary

@@ -1,0 +1,41 @@
+-- 01, "Preparing": what a preparation of c cells at T ends with, and what it leaves in both lists.
+use mathlib.Core.Bool.{Bool, true, false}
+use mathlib.Core.List.{List}
+use Prim.Native.Nat.{ℕ, _+_}
+use lib.ListN.{length}
+use lib.Ieee.{Float}
+use Rattle.refusals.specs.declared.Refusal.the-variants.{WorkNotFinite}
+use Rattle.search.specs.Plain.{atEnds}
+use Rattle.search.specs.Lists.{someNotFinite, greatestList, leastList}
+use Rattle.refusals.specs.declared.Permit.{Permit}
+use Rattle.refusals.specs.declared.Permit.the-variants.{Granted, Denied}
+use Rattle.preparation.specs.declared.Prepared.{Prepared}
+use Rattle.preparation.specs.declared.Prepared.the-variants.{Ready}
+use Rattle.fluids.specs.R245ca.{r245ca}
+use Rattle.inputs.specs.Inputs.{roomOf, preparePermit}
+use Rattle.steps.specs.Steps.{pressuresOf}
+
+-- refused by the inputs, with 12 where an end gives 12, or ready
+abbrev pub preparedBy : Permit → Bool → Prepared
+preparedBy (Denied r) notFinite = Prepared.Refused r
+preparedBy Granted true = Prepared.Refused WorkNotFinite
+preparedBy Granted false = Ready
+
+unfoldable pub prepareOf : Float → ℕ → List Float → List Float → Prepared
+prepareOf t c greatest least =
+    preparedBy (preparePermit r245ca t c (roomOf c (length greatest) (length least))) (someNotFinite (atEnds (pressuresOf t)) (c + 1))
+
+-- a list that the preparation leaves as it was where the inputs are refused
+abbrev pub leftBy : Permit → List Float → List Float → List Float
+leftBy Granted before after = after
+leftBy (Denied r) before after = before
+
+-- the list for G after the call
+unfoldable pub greatestAfter : Float → ℕ → List Float → List Float → List Float
+greatestAfter t c greatest least =
+    leftBy (preparePermit r245ca t c (roomOf c (length greatest) (length least))) greatest (greatestList (atEnds (pressuresOf t)) c greatest)
+
+-- the list for L after the call
+unfoldable pub leastAfter : Float → ℕ → List Float → List Float → List Float
+leastAfter t c greatest least =
+    leftBy (preparePermit r245ca t c (roomOf c (length greatest) (length least))) least (leastList (atEnds (pressuresOf t)) c least)

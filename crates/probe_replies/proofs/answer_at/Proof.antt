@@ -1,0 +1,75 @@
+-- `answer_at` meets its contract: the three words are those of the list, of its tail from 8 on and of its tail from 16 on.
+-- Assumes nothing.
+use mathlib.Core.Path.{_∙_}
+use borrow.Author.Tests.{le-leb, lt-leb}
+use Rattle.words.proofs.Tail.{tail-read}
+use Rattle.probe_replies.specs.Replies.{answerAt}
+use Rattle.probe_replies.proofs.Served.{next-serves}
+use borrow.Author.Needs.{needs}
+use Rattle.probe_replies.proofs.answer_at.Statement.{statement}
+use Rattle.probe_replies.proofs.answer_at.Tie as tie
+
+returns : tie.Need-returns
+unfolding answerAt
+returns c = simp (lt-leb 24 _ (c .if1 .taken))
+
+word-requires : tie.Need-word-requires
+word-requires c κs = search needs
+
+sub-word : tie.Need-sub-word
+sub-word c = search needs
+
+part-word-start : tie.Need-part-word-start
+part-word-start c = search needs
+
+part-word-end : tie.Need-part-word-end
+part-word-end c = search needs
+
+word-requires-2 : tie.Need-word-requires-2
+word-requires-2 c κs = search needs
+
+sub-word-2 : tie.Need-sub-word-2
+sub-word-2 c = search needs
+
+part-word-start-2 : tie.Need-part-word-start-2
+part-word-start-2 c = search needs
+
+part-word-end-2 : tie.Need-part-word-end-2
+part-word-end-2 c = search needs
+
+word-requires-3 : tie.Need-word-requires-3
+word-requires-3 c κs = search needs
+
+answer-over-requires : tie.Need-answer-over-requires
+answer-over-requires c κs =
+    let second = c .before .before in
+    let first = second .before .before in
+    let long = first .before in
+    let start = long .before .before .before .before in
+    next-serves (start .args .s .now) _ _ _ _ (first .word .ensures) (second .word2 .ensures) (start .pre) (long .if1 .left)
+
+returns-2 : tie.Need-returns-2
+unfolding answerAt
+returns-2 c =
+    let third = c .before in
+    let second = third .before .before in
+    let first = second .before .before in
+    c .answer-over .ensures
+    ∙ simp (le-leb 24 _ (first .before .if1 .left), first .word .ensures, second .word2 .ensures, third .word3 .ensures, tail-read)
+
+pub answer-at-spec : {M : Type 1} → statement M
+answer-at-spec =
+    tie.close
+    (tie.spec
+    returns
+    word-requires
+    sub-word
+    part-word-start
+    part-word-end
+    word-requires-2
+    sub-word-2
+    part-word-start-2
+    part-word-end-2
+    word-requires-3
+    answer-over-requires
+    returns-2)

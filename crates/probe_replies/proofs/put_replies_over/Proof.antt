@@ -1,0 +1,153 @@
+-- `put_replies_over` meets its contract. The loop's invariant: the first k questions are answered in the first 16·k places, the places
+-- after them are as they were, and the lists serve the kept bits. The measure is what is left of the input. Assumes nothing.
+use Prim.Native.Nat.{_+_, _-_, _*_, _<_}
+use native.Mathlib.Omega.{arith}
+use borrow.Author.Needs.{needs}
+use lib.ListN.{length}
+use lib.Ieee.{binary64, ofBits}
+use Rattle.density.specs.Serving.{Serves}
+use Rattle.probe_replies.proofs.Progress.{Answered, none-yet, one-more, stopped, finished}
+use Rattle.probe_replies.proofs.Served.{any-serve-none}
+use Rattle.probe_replies.proofs.put_replies_over.Statement.{statement}
+use Rattle.probe_replies.proofs.put_replies_over.Tie as tie
+
+abbrev Inv-loop : tie.InvT-loop
+Inv-loop input out₀ greatest₀ least₀ kept₀ k₀ out greatest least kept k =
+    (24 * k < length input + 24) × Answered input out₀ out k × Serves (ofBits binary64 kept) 1664 greatest least
+
+abbrev μ-loop : tie.MeasureT-loop
+μ-loop input out₀ greatest₀ least₀ kept₀ k₀ out greatest least kept k = length input + 24 - 24 * k
+
+loop-holds : tie.Need-loop-holds Inv-loop μ-loop
+loop-holds c =
+    let start = c .before .before .before .before in
+    (omega arith, none-yet _ _, any-serve-none _ _ (start .pre .0) (start .pre .1))
+
+mul-loop : tie.Need-mul-loop Inv-loop μ-loop
+mul-loop c = search needs
+
+mul-from : tie.Need-mul-from Inv-loop μ-loop
+mul-from c = search needs
+
+mul-to : tie.Need-mul-to Inv-loop μ-loop
+mul-to c = search needs
+
+sub-if1 : tie.Need-sub-if1 Inv-loop μ-loop
+sub-if1 c = search needs
+
+same-length : tie.Need-same-length Inv-loop μ-loop
+same-length c = c .before .before .loop .inv .1 .same
+
+same-length-2 : tie.Need-same-length-2 Inv-loop μ-loop
+same-length-2 c = omega (arith, c .before .before .loop .inv .2 .places-greatest, c .before .before .before .before .before .before .before .pre .0)
+
+same-length-3 : tie.Need-same-length-3 Inv-loop μ-loop
+same-length-3 c = omega (arith, c .before .before .loop .inv .2 .places-least, c .before .before .before .before .before .before .before .pre .1)
+
+returns : tie.Need-returns Inv-loop μ-loop
+returns c = stopped _ _ _ _ (c .before .before .loop .inv .1) (c .before .loop-test .taken) (c .if1 .taken)
+
+sub-prepare-next : tie.Need-sub-prepare-next Inv-loop μ-loop
+sub-prepare-next c = search needs
+
+part-prepare-next-start : tie.Need-part-prepare-next-start Inv-loop μ-loop
+part-prepare-next-start c = search needs
+
+part-prepare-next-end : tie.Need-part-prepare-next-end Inv-loop μ-loop
+part-prepare-next-end c = search needs
+
+prepare-next-requires : tie.Need-prepare-next-requires Inv-loop μ-loop
+prepare-next-requires c κs = c .before .before .before .before .before .loop .inv .2
+
+sub-answer-at : tie.Need-sub-answer-at Inv-loop μ-loop
+sub-answer-at c = search needs
+
+part-answer-at-start : tie.Need-part-answer-at-start Inv-loop μ-loop
+part-answer-at-start c = search needs
+
+part-answer-at-end : tie.Need-part-answer-at-end Inv-loop μ-loop
+part-answer-at-end c = search needs
+
+answer-at-requires : tie.Need-answer-at-requires Inv-loop μ-loop
+answer-at-requires c κs = c .before .before .before .before .before .before .before .prepare-next .ensures .1
+
+sub-put-reply : tie.Need-sub-put-reply Inv-loop μ-loop
+sub-put-reply c = search needs
+
+part-put-reply-start : tie.Need-part-put-reply-start Inv-loop μ-loop
+part-put-reply-start c = search needs
+
+part-put-reply-end : tie.Need-part-put-reply-end Inv-loop μ-loop
+part-put-reply-end c = search needs
+
+put-reply-requires : tie.Need-put-reply-requires Inv-loop μ-loop
+put-reply-requires c κs = search needs
+
+add-k : tie.Need-add-k Inv-loop μ-loop
+add-k c = search needs
+
+loop-less : tie.Need-loop-less Inv-loop μ-loop
+loop-less c = search needs
+
+loop-again : tie.Need-loop-again Inv-loop μ-loop
+loop-again c =
+    let put = c .before .before in
+    let asked = put .before .before in
+    let prepared = asked .before .before .before .before .before .before .before .before in
+    let test = prepared .before .before .before .before in
+    let at = test .before .before in (
+      omega arith,
+      one-more _ _ _ _ _ _ (at .loop .inv .1) (test .if1 .left) (asked .answer-at .ensures) (put .put-reply .ensures),
+      prepared .prepare-next .ensures .0,
+    )
+
+mul-result : tie.Need-mul-result Inv-loop μ-loop
+mul-result c = search needs
+
+same-length-4 : tie.Need-same-length-4 Inv-loop μ-loop
+same-length-4 c = c .before .loop .inv .1 .same
+
+same-length-5 : tie.Need-same-length-5 Inv-loop μ-loop
+same-length-5 c = omega (arith, c .before .loop .inv .2 .places-greatest, c .before .before .before .before .before .before .pre .0)
+
+same-length-6 : tie.Need-same-length-6 Inv-loop μ-loop
+same-length-6 c = omega (arith, c .before .loop .inv .2 .places-least, c .before .before .before .before .before .before .pre .1)
+
+returns-2 : tie.Need-returns-2 Inv-loop μ-loop
+returns-2 c = finished _ _ _ _ (c .before .loop .inv .1) (c .loop-test .left) (c .before .loop .inv .0)
+
+pub put-replies-over-spec : {M : Type 1} → statement M
+put-replies-over-spec =
+    tie.close
+    (tie.spec
+    Inv-loop
+    μ-loop
+    loop-holds
+    mul-loop
+    mul-from
+    mul-to
+    sub-if1
+    same-length
+    same-length-2
+    same-length-3
+    returns
+    sub-prepare-next
+    part-prepare-next-start
+    part-prepare-next-end
+    prepare-next-requires
+    sub-answer-at
+    part-answer-at-start
+    part-answer-at-end
+    answer-at-requires
+    sub-put-reply
+    part-put-reply-start
+    part-put-reply-end
+    put-reply-requires
+    add-k
+    loop-less
+    loop-again
+    mul-result
+    same-length-4
+    same-length-5
+    same-length-6
+    returns-2)

@@ -1,0 +1,22 @@
+-- `quick_answer` meets its contract: over lists that serve t the quick search ends as over the prepared ones. Assumes nothing.
+use mathlib.Core.Path.{_∙_, ap}
+use Rattle.probe_replies.specs.Question.{quickAnswer}
+use Rattle.outcomes.specs.Codes.{foundAnswerOf}
+use borrow.Author.Needs.{needs}
+use Rattle.probe_replies.proofs.searches.quick_answer.Statement.{statement}
+use Rattle.probe_replies.proofs.searches.quick_answer.Tie as tie
+
+quick-requires : tie.Need-quick-requires
+quick-requires c κs = search needs
+
+found-answer-requires : tie.Need-found-answer-requires
+found-answer-requires c κs = search needs
+
+returns : tie.Need-returns
+unfolding quickAnswer
+returns c =
+    let start = c .before .before .before .before in
+    c .found-answer .ensures ∙ ap foundAnswerOf (c .before .quick .ensures ∙ start .pre .alike _ _)
+
+pub quick-answer-spec : {M : Type 1} → statement M
+quick-answer-spec = tie.close (tie.spec quick-requires found-answer-requires returns)

@@ -1,0 +1,149 @@
+// The questions of the program probe and their replies.
+//
+// A question is three little-endian words: the call's number and the bits of two numbers. A reply is
+// two: the code, and the number's bits, or all ones where refused.
+mod searches;
+
+use density::Side;
+use probe_calls::answer_of_numbers;
+use refusals::Answer;
+use refusals::Refusal;
+use refusals::answer_code;
+use searches::places;
+use searches::prepare_for;
+use searches::quick_answer;
+use words::bits;
+use words::number;
+use words::put_word;
+use words::word;
+ghost use mathlib.Core.Path.{_≡_};
+ghost use mathlib.Core.List.{_++_};
+ghost use Prim.Native.Nat.{_*_, _≤_};
+ghost use lib.ListN.{length, drop};
+ghost use Rattle.probe_replies.specs.Question.{answerTo};
+ghost use Rattle.probe_replies.specs.Serving.{KeptFor, ServesCall, ServesNext, NextServed};
+ghost use Rattle.probe_replies.specs.Replies.{answerBits, replyBytes, answerAt, replyCount, withReplies};
+
+// The bits of a NaN: over any lists a quick search at a NaN is refused.
+const NO_TEMPERATURE: u64 = 9221120237041090560;
+
+// The answer of the call of that number at the numbers of the two bit patterns, over lists that serve it.
+fn answer_over(call: u64, first: u64, second: u64, greatest: &[f64], least: &[f64]) -> Answer
+    requires { ⌜ ServesCall call first (now greatest) (now least) ⌝ }
+    ensures { λ r. ⌜ r ≡ answerTo call first second ⌝ }
+{
+    let x = number(first);
+    let y = number(second);
+    if call == 32 {
+        return quick_answer(x, y, Side::FromBelow, greatest, least);
+    }
+    if call == 33 {
+        return quick_answer(x, y, Side::FromAbove, greatest, least);
+    }
+    answer_of_numbers(call, x, y)
+}
+
+// Prepares the lists if the call is over lists, and answers.
+fn answer_fresh(
+    call: u64,
+    first: u64,
+    second: u64,
+    greatest: &mut [f64],
+    least: &mut [f64],
+) -> Answer
+    requires { ⌜ (length (now greatest) ≡ 1665) × (length (now least) ≡ 1665) ⌝ }
+    ensures { λ r. ⌜ r ≡ answerTo call first second ⌝ }
+{
+    let kept = prepare_for(call, first, NO_TEMPERATURE, greatest, least);
+    answer_over(call, first, second, greatest, least)
+}
+
+// The answer of the call of that number at the numbers of the two bit patterns.
+pub fn answer_to(call: u64, first: u64, second: u64) -> Answer
+    ensures { λ r. ⌜ r ≡ answerTo call first second ⌝ }
+{
+    let mut greatest = places();
+    let mut least = places();
+    answer_fresh(call, first, second, &mut greatest, &mut least)
+}
+
+// The number's bits, and all ones where refused.
+fn answer_bits(a: Answer) -> u64
+    ensures { λ r. ⌜ r ≡ answerBits a ⌝ }
+{
+    match a {
+        Answer::Number(x) => bits(x),
+        Answer::Refused(_) => 18446744073709551615,
+    }
+}
+
+// Prepares the lists for the next question, at the front of a slice, if it is over lists and they serve another temperature; the bits that
+// they serve afterwards.
+fn prepare_next(next: &[u8], kept: u64, greatest: &mut [f64], least: &mut [f64]) -> u64
+    requires { ⌜ KeptFor kept (now greatest) (now least) ⌝ }
+    ensures { λ r. ⌜ NextServed (now (next .entry)) r (now (greatest .exit)) (now (least .exit)) ⌝ }
+{
+    if next.len() < 24 {
+        return kept;
+    }
+    let call = word(next);
+    let first = word(&next[8..]);
+    prepare_for(call, first, kept, greatest, least)
+}
+
+// The answer to the question at the front of s, over lists that serve it; 15 where s is shorter than a question.
+fn answer_at(s: &[u8], greatest: &[f64], least: &[f64]) -> Answer
+    requires { ⌜ ServesNext (now s) (now greatest) (now least) ⌝ }
+    ensures { λ r. ⌜ r ≡ answerAt (now (s .entry)) ⌝ }
+{
+    if s.len() < 24 {
+        return Answer::Refused(Refusal::CutShort);
+    }
+    let call = word(s);
+    let first = word(&s[8..]);
+    let second = word(&s[16..]);
+    answer_over(call, first, second, greatest, least)
+}
+
+// The reply's bytes into the first 16 places.
+fn put_reply(out: &mut [u8], a: Answer)
+    requires { ⌜ 16 ≤ length (now out) ⌝ }
+    ensures { λ _. ⌜ now (out .exit) ≡ replyBytes a ++ drop 16 (now (out .entry)) ⌝ }
+{
+    let code = answer_code(a) as u64;
+    put_word(out, code);
+    put_word(&mut out[8..], answer_bits(a));
+}
+
+// The replies, with two lists that are kept while the bits of the temperature stay the same.
+fn put_replies_over(input: &[u8], out: &mut [u8], greatest: &mut [f64], least: &mut [f64]) -> usize
+    requires { ⌜ (length (now greatest) ≡ 1665) × (length (now least) ≡ 1665) ⌝ }
+    ensures { λ r. ⌜ r ≡ 16 * replyCount (now (input .entry)) (now (out .entry)) ⌝ }
+    ensures { λ _. ⌜ now (out .exit) ≡ withReplies (now (input .entry)) (now (out .entry)) ⌝ }
+{
+    let mut kept: u64 = NO_TEMPERATURE;
+    let mut k: usize = 0;
+    while 24 * k < input.len() {
+        let from = 24 * k;
+        let to = 16 * k;
+        if out.len() - to < 16 {
+            return to;
+        }
+        kept = prepare_next(&input[from..], kept, greatest, least);
+        let a = answer_at(&input[from..], greatest, least);
+        put_reply(&mut out[to..], a);
+        k += 1;
+    }
+    16 * k
+}
+
+// The replies to the questions of input, one after the other, into out, as long as there is room,
+// and how many bytes they take. A piece shorter than a question at the end gets one reply, 15.
+pub fn put_replies(input: &[u8], out: &mut [u8]) -> usize
+    ensures { λ r. ⌜ r ≡ 16 * replyCount (now (input .entry)) (now (out .entry)) ⌝ }
+    ensures { λ _. ⌜ now (out .exit) ≡ withReplies (now (input .entry)) (now (out .entry)) ⌝ }
+{
+    let mut greatest = places();
+    let mut least = places();
+    put_replies_over(input, out, &mut greatest, &mut least)
+}

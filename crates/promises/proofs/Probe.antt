@@ -1,0 +1,22 @@
+-- Each public call of the crates `probe_calls` and `probe_replies` promises one outcome: its contract gives it by a definition of its arguments.
+use mathlib.Core.Path.{sym, _∙_}
+use mathlib.Core.List.{List}
+use Prim.Native.Nat.{ℕ}
+use denote.Ref.{now}
+use Rattle.promises.specs.OneOutcome.{OneResult, OneOutcome}
+use Rattle.probe_calls.proofs.answer_of_numbers.Kinds as answer-of-numbers-kinds
+use Rattle.probe_calls.proofs.answer_of_numbers.Reads as answer-of-numbers-reads
+use Rattle.probe_replies.proofs.answer_to.Kinds as answer-to-kinds
+use Rattle.probe_replies.proofs.answer_to.Reads as answer-to-reads
+use Rattle.probe_replies.proofs.put_replies.Kinds as put-replies-kinds
+use Rattle.probe_replies.proofs.put_replies.Reads as put-replies-reads
+
+pub answer-of-numbers-one : OneResult _ answer-of-numbers-kinds.ps answer-of-numbers-kinds.r answer-of-numbers-reads.Learnt
+answer-of-numbers-one κs a x y e f p q = p ∙ sym q
+
+pub answer-to-one : OneResult _ answer-to-kinds.ps answer-to-kinds.r answer-to-reads.Learnt
+answer-to-one κs a x y e f p q = p ∙ sym q
+
+-- the bytes as well
+pub put-replies-one : OneOutcome _ put-replies-kinds.ps put-replies-kinds.r (List ℕ) (λ κs e. now (e .1 .0)) put-replies-reads.Learnt
+put-replies-one κs a x y e f p q = (p .0 ∙ sym (q .0), p .1 ∙ sym (q .1))

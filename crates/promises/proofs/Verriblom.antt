@@ -1,0 +1,12 @@
+-- Each public call of the crate `verriblom` promises one outcome: its contract gives it by a definition of its arguments.
+use mathlib.Core.Path.{sym, _∙_}
+use mathlib.Core.List.{List}
+use Prim.Native.Nat.{ℕ}
+use denote.Ref.{now}
+use Rattle.promises.specs.OneOutcome.{OneOutcome}
+use Rattle.verriblom.proofs.verriblom_answer.Kinds as verriblom-answer-kinds
+use Rattle.verriblom.proofs.verriblom_answer.Reads as verriblom-answer-reads
+
+-- the bytes as well
+pub verriblom-answer-one : OneOutcome _ verriblom-answer-kinds.ps verriblom-answer-kinds.r (List ℕ) (λ κs e. now (e .1 .0)) verriblom-answer-reads.Learnt
+verriblom-answer-one κs a x y e f p q = (p .0 ∙ sym (q .0), p .1 ∙ sym (q .1))

@@ -1,0 +1,44 @@
+-- What a granted permit says of the inputs, and the permit of a state's stability.
+use mathlib.Core.Path.{_≡_, refl}
+use mathlib.Core.Bool.{Bool, true, false, _&&_}
+use mathlib.Core.List.{[], _∷_}
+use Prim.Native.Nat.{ℕ}
+use native.Mathlib.Omega.{arith}
+use lib.Dec.{T}
+use lib.Ieee.{Float}
+use lib.Ieee.Scale.{finite}
+use Rattle.refusals.specs.declared.Refusal.the-variants.{InputNotFinite, TemperatureOutside, DensityOutside}
+use Rattle.refusals.specs.declared.Permit.the-variants.{Granted}
+use Rattle.refusals.specs.Order.{firstOf}
+use Rattle.refusals.proofs.Needed.{test-passed, rest-granted}
+use Rattle.arithmetic.specs.Checked.{real, between}
+use Rattle.fluids.specs.Fluid.{Fluid}
+use Rattle.values.specs.declared.Stability.{Stability}
+use Rattle.values.specs.Values.{stabilityOf}
+use Rattle.inputs.specs.Inputs.{statePermit}
+use Rattle.properties.specs.Calls.{stableOf, stabilityPermit}
+
+pub left-true : (a b : Bool) → (a && b) ≡ true → a ≡ true
+left-true true b p = refl
+left-true false b p = p
+
+pub right-true : (a b : Bool) → (a && b) ≡ true → b ≡ true
+right-true true b p = p
+right-true false b p = let z : _≡_ {A = ℕ} 0 1 = cc in absurd (omega arith)
+
+pub passes : (b : Bool) → b ≡ true → T b
+passes true p = tt
+passes false p = let z : _≡_ {A = ℕ} 0 1 = cc in absurd (omega arith)
+
+module _ (F : Fluid) (t ρ : Float) where
+  pub state-temperature : statePermit F t ρ ≡ Granted → between (F .leastT) t (F .greatestT) ≡ true
+  unfolding statePermit
+  state-temperature p =
+      let last = firstOf ((between (real 0) ρ (F .greatestρ), DensityOutside) ∷ []) in
+      let inner = firstOf ((between (F .leastT) t (F .greatestT), TemperatureOutside) ∷ (between (real 0) ρ (F .greatestρ), DensityOutside) ∷ []) in
+      test-passed _ last TemperatureOutside (rest-granted (finite t && finite ρ) inner InputNotFinite p)
+
+  -- a stability's permit is that of the state that it is of
+  pub stable-at : (s : Stability) → s ≡ stabilityOf F t ρ → stabilityPermit F t ρ ≡ stableOf (s .v) (s .k) (s .q)
+  unfolding stabilityPermit stabilityOf
+  stable-at s e = simp e

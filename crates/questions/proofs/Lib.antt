@@ -1,3 +1,0 @@
-pub mod Progress
-mod Rows
-mod Served

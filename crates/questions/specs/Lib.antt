@@ -1,3 +1,0 @@
-pub mod Question
-pub mod Replies
-pub mod Serving

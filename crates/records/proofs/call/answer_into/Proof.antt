@@ -1,0 +1,100 @@
+-- `answer_into` meets its contract: a record that is not permitted touches nothing, and another is answered by the work. Assumes nothing.
+use mathlib.Core.Path.{_≡_, refl, sym, _∙_, ap}
+use mathlib.Core.List.{List}
+use Prim.Native.Nat.{ℕ}
+use lib.ListN.{length}
+use Rattle.refusals.specs.declared.Refusal.{Refusal}
+use Rattle.refusals.specs.declared.Answer.{Answer}
+use Rattle.refusals.specs.declared.Answer.the-variants.{Refused}
+use Rattle.refusals.specs.declared.Permit.{Permit}
+use Rattle.refusals.specs.declared.Permit.the-variants.{Granted, Denied}
+use Rattle.refusals.specs.Code.{answerCodeOf}
+use Rattle.refusals.specs.Order.{permitted}
+use Rattle.refusals.proofs.Needed.{permitted-granted, permitted-denied}
+use Rattle.records.specs.declared.Reading.{Reading}
+use Rattle.records.specs.Record.{readingOf, workOf}
+use Rattle.records.specs.Call.{permitOf, callOf, outputOf, callCode, callOutput}
+use borrow.Author.Needs.{needs}
+use Rattle.records.proofs.call.answer_into.Statement.{statement}
+use Rattle.records.proofs.call.answer_into.Tie as tie
+use Rattle.records.proofs.call.answer_into.Reads as reads
+use Rattle.records.proofs.call.answer_into.Lts as lts
+use Rattle.records.proofs.record.worked.Reads as worked-reads
+use Rattle.records.proofs.call.handed_out.Reads as handed-out-reads
+use Rattle.records.proofs.call.permit.Reads as permit-reads
+use Rattle.records.proofs.record.read.Reads as read-reads
+use Rattle.refusals.proofs.code.Reads as code-reads
+
+-- the call's outcome, once what the record asks and whether it is permitted are known
+module _ (s out : List ℕ) (asked : Reading) (p : Permit) (e : asked ≡ readingOf s) (f : p ≡ permitOf asked (length out)) where
+  call-is : permitted p (workOf asked) ≡ callOf s (length out)
+  unfolding callOf
+  call-is = simp (f, e)
+
+  call-denied : (r : Refusal) → p ≡ Denied r → callOf s (length out) ≡ Refused r
+  call-denied r g = sym call-is ∙ permitted-denied p (workOf asked) r g
+
+  call-granted : p ≡ Granted → callOf s (length out) ≡ workOf asked
+  call-granted g = sym call-is ∙ permitted-granted p (workOf asked) g
+
+handed : (s out : List ℕ) {a : Answer} {n : ℕ} {now : List ℕ} → callOf s (length out) ≡ a → n ≡ answerCodeOf a → now ≡ outputOf a out →
+    (n ≡ callCode s out) × (now ≡ callOutput s out)
+unfolding callCode callOutput
+handed s out e p q = (p ∙ sym (ap answerCodeOf e), q ∙ sym (ap (λ (a : Answer). outputOf a out) e))
+
+read-requires : tie.Need-read-requires
+read-requires c κs = search needs
+
+permit-requires : tie.Need-permit-requires
+permit-requires c κs = search needs
+
+enum-known-permitted : tie.Need-enum-known-permitted
+enum-known-permitted c = search needs
+
+code-requires : tie.Need-code-requires
+code-requires c κs = search needs
+
+enum-told : tie.Need-enum-told
+enum-told c = search needs
+
+worked-requires : tie.Need-worked-requires
+worked-requires c κs = search needs
+
+handed-out-requires : tie.Need-handed-out-requires
+handed-out-requires c κs = search needs
+
+returns : tie.Need-returns
+returns c =
+    let permit = c .before .before .before .before in
+    let read = permit .before in
+    let args = read .before .before .before .args in
+    let denied = call-denied (args .marked .now) (args .out .now) _ _ (read .read .ensures) (permit .permit .ensures) _ (c .before .before .permitted .given .1) in
+    handed (args .marked .now) (args .out .now) denied (c .code .ensures) refl
+
+same-length : tie.Need-same-length
+same-length c = search needs
+
+returns-2 : tie.Need-returns-2
+returns-2 c =
+    let out = c .before .before in
+    let work = out .before .before in
+    let permit = work .before .before .before in
+    let read = permit .before in
+    let args = read .before .before .before .args in
+    let granted = call-granted (args .marked .now) (args .out .now) _ _ (read .read .ensures) (permit .permit .ensures) (work .before .enum-told .given .1) in
+    handed (args .marked .now) (args .out .now) (granted ∙ sym (work .worked .ensures)) (out .handed-out .ensures .0) (out .handed-out .ensures .1)
+
+pub answer-into-spec : {M : Type 1} → statement M
+answer-into-spec =
+    tie.close
+    (tie.spec
+    read-requires
+    permit-requires
+    enum-known-permitted
+    code-requires
+    enum-told
+    worked-requires
+    handed-out-requires
+    returns
+    same-length
+    returns-2)

@@ -1,0 +1,68 @@
+-- `sum_of` meets its contract. The loop's invariant: the sum has n terms more than at the start. The measure is what is left of
+-- them. Assumes nothing.
+use mathlib.Core.Path.{_≡_, refl}
+use Prim.Native.Nat.{_+_, _-_, _≤_}
+use native.Mathlib.Omega.{arith}
+use borrow.Author.Needs.{needs}
+use Rattle.arithmetic.specs.Checked.{squash}
+use Rattle.saturation.specs.Estimates.{termAt, plusTerms}
+use Rattle.saturation.proofs.Terms.{plus-turn}
+use Rattle.saturation.proofs.estimates.sum_of.Statement.{statement}
+use Rattle.saturation.proofs.estimates.sum_of.Tie as tie
+
+abbrev Inv-loop : tie.InvT-loop
+Inv-loop first from count theta y terms sum₀ n₀ sum n = (n ≤ count) × (squash sum ≡ plusTerms (squash theta) terms (squash first) from n)
+
+abbrev μ-loop : tie.MeasureT-loop
+μ-loop first from count theta y terms sum₀ n₀ sum n = count - n
+
+loop-holds : tie.Need-loop-holds Inv-loop μ-loop
+unfolding plusTerms
+loop-holds c = (omega arith, refl)
+
+add-at : tie.Need-add-at Inv-loop μ-loop
+add-at c = search needs
+
+mul-term : tie.Need-mul-term Inv-loop μ-loop
+mul-term c = search needs
+
+array-copy-out-term : tie.Need-array-copy-out-term Inv-loop μ-loop
+array-copy-out-term c = search needs
+
+term-value-requires : tie.Need-term-value-requires Inv-loop μ-loop
+term-value-requires c κs =
+    let start = c .before .before .before in
+    (start .pre .0 (start .args .from + c .before .before .loop .n) (omega arith), start .pre .1)
+
+add-n : tie.Need-add-n Inv-loop μ-loop
+add-n c = search needs
+
+loop-less : tie.Need-loop-less Inv-loop μ-loop
+loop-less c = search needs
+
+loop-again : tie.Need-loop-again Inv-loop μ-loop
+unfolding termAt
+loop-again c =
+    let at = c .before .before .before in
+    (omega arith, plus-turn _ _ _ _ _ _ _ (at .loop .inv .1) (c .term-value .ensures))
+
+returns : tie.Need-returns Inv-loop μ-loop
+returns c =
+    let z : c .before .loop .n ≡ c .before .before .args .count = omega arith in
+    rw z at (c .before .loop .inv .1)
+
+pub sum-of-spec : {M : Type 1} → statement M
+sum-of-spec =
+    tie.close
+    (tie.spec
+    Inv-loop
+    μ-loop
+    loop-holds
+    add-at
+    mul-term
+    array-copy-out-term
+    term-value-requires
+    add-n
+    loop-less
+    loop-again
+    returns)

@@ -1,0 +1,30 @@
+-- 01, "Density steps are k·2⁻³⁰, exact": the density of a step (exact by proofs/StepExact.antt), and the pressure there.
+use mathlib.Core.Bool.{cond}
+use Prim.Native.Nat.{ℕ}
+use lib.Dec.{leb}
+use lib.Ieee.{Float, nan, binary64, mul}
+use Rattle.arithmetic.specs.Checked.{real, two⁻}
+use Rattle.fluids.specs.R245ca.{r245ca}
+use Rattle.equation.specs.declared.kept.Kept.{Kept}
+use Rattle.equation.specs.Kept.{keptOf, pressureAt}
+use Rattle.search.specs.Plain.{endStep}
+
+-- k·2⁻³⁰, in mol/dm³
+unfoldable pub stepDensityOf : ℕ → Float
+stepDensityOf k = mul binary64 (real k) (two⁻ 30)
+
+-- the pressure at the step k of a kept temperature, in Pa; `nan` where 01 owes 12
+unfoldable pub stepPressureOf : Kept → ℕ → Float
+stepPressureOf kept k = pressureAt r245ca kept (stepDensityOf k)
+
+-- the pressures at the steps of the temperature t
+abbrev pub pressuresOf : Float → ℕ → Float
+pressuresOf t = stepPressureOf (keptOf r245ca t)
+
+-- ---- no fluid has more than 2048 cells: what the code gives for a step or an end beyond them is `nan`
+
+unfoldable pub inSteps : ℕ → Float → Float
+inSteps k x = cond (leb k (endStep 2048)) x nan
+
+unfoldable pub inEnds : ℕ → Float → Float
+inEnds j x = cond (leb j 2048) x nan

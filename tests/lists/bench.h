@@ -1,0 +1,22 @@
+/* The searches of crates/bench as C calls them. Side 0 is from below, any other from above; a list is its places and how
+ * many they are. */
+#ifndef LISTS_BENCH_H
+#define LISTS_BENCH_H
+
+#include <stddef.h>
+#include <stdint.h>
+
+double bench_plain(double T, double P, size_t c, uint32_t side);
+uint32_t bench_plain_code(double T, double P, size_t c, uint32_t side);
+uint64_t bench_plain_word(double T, double P, size_t c, uint32_t side);
+
+uint32_t bench_prepare(double T, size_t c, double *G, size_t places_G, double *L, size_t places_L);
+
+double bench_quick(double T, double P, size_t c, uint32_t side, const double *G, size_t places_G,
+                   const double *L, size_t places_L);
+uint32_t bench_quick_code(double T, double P, size_t c, uint32_t side, const double *G,
+                          size_t places_G, const double *L, size_t places_L);
+uint64_t bench_quick_word(double T, double P, size_t c, uint32_t side, const double *G,
+                          size_t places_G, const double *L, size_t places_L);
+
+#endif
