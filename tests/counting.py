@@ -13,6 +13,8 @@ import tempfile
 from pathlib import Path
 from typing import Dict, Iterator, NamedTuple, Optional
 
+from last_line import ended
+
 ROOT = Path(__file__).resolve().parent.parent
 
 
@@ -204,10 +206,7 @@ def outcomes() -> Iterator[Optional[str]]:
 def main() -> int:
     found = list(outcomes())
     wrong = [outcome for outcome in found if outcome is not None]
-    for outcome in wrong:
-        print(outcome)
-    print(f"{len(found) - len(wrong)} passed, {len(wrong)} failed")
-    return 1 if wrong else 0
+    return ended(len(found), wrong)
 
 
 if __name__ == "__main__":

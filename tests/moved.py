@@ -12,6 +12,8 @@ import tempfile
 from pathlib import Path
 from typing import Dict, Iterator, List, NamedTuple, Optional, Sequence
 
+from last_line import ended
+
 SCRIPT = Path(__file__).resolve().parent.parent / "tools" / "moved"
 
 
@@ -249,10 +251,7 @@ def main() -> int:
         new = place.commit(NEW, ("tests/run",))
         outcomes: List[Optional[str]] = [*figures(place, old, new), *refusals(place, old)]
     wrong = [outcome for outcome in outcomes if outcome is not None]
-    for outcome in wrong:
-        print(outcome)
-    print(f"{len(outcomes) - len(wrong)} passed, {len(wrong)} failed")
-    return 1 if wrong else 0
+    return ended(len(outcomes), wrong)
 
 
 if __name__ == "__main__":

@@ -14,6 +14,8 @@ from functools import lru_cache
 from pathlib import Path
 from typing import FrozenSet, Iterator, List, NamedTuple, Set
 
+from last_line import ended
+
 # Written out: a folder that is gone must not take its names along.
 FOLDERS = (".ci", "bench", "crates", "docs", "examples", "include", "python", "tests", "tools")
 SPAN = re.compile(r"`([^`]+)`")
@@ -128,10 +130,7 @@ def main() -> int:
     for path, page in zip(paths, pages):
         everything.extend((str(path.relative_to(root)), found) for found in looked_up(root, page))
     wrong = [f"{where} has {found.what}" for where, found in everything if not found.there]
-    for line in wrong:
-        print(line)
-    print(f"{len(everything) - len(wrong)} passed, {len(wrong)} failed")
-    return 1 if wrong else 0
+    return ended(len(everything), wrong)
 
 
 if __name__ == "__main__":

@@ -11,6 +11,8 @@ import sys
 from pathlib import Path
 from typing import Iterator, List, NamedTuple
 
+from last_line import ended
+
 PUBLIC = re.compile(r'^[ \t]*pub (?:[\w"]+ )*fn (\w+)', re.MULTILINE)
 ROW = re.compile(r"^\| `(\w+::\w+)` \|", re.MULTILINE)
 THEOREM = re.compile(r"^use Rattle·(\w+)\.proofs\.(\w+)\.Reads as (\S+)-reads$", re.MULTILINE)
@@ -142,11 +144,7 @@ def main() -> int:
     wrong = own_faults() + complaints(tree)
     if not tree.functions:
         wrong.append("no public function was found")
-    for line in wrong:
-        print(line)
-    checks = 4 * len(tree.functions) + len(SAMPLES) + 2
-    print(f"{max(checks - len(wrong), 0)} passed, {len(wrong)} failed")
-    return 1 if wrong else 0
+    return ended(4 * len(tree.functions) + len(SAMPLES) + 2, wrong)
 
 
 if __name__ == "__main__":
