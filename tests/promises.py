@@ -64,9 +64,17 @@ def says(theorems: str, alias: str, what: str) -> bool:
     return what in said and f"{alias}-reads.Learnt" in said
 
 
+def theorem_for(function: Function) -> str:
+    """What is to be said of the function: it has one result; one outcome where memory is lent to it to be written; and the
+    same bytes where its result is a part of memory that is lent to be read."""
+    if "&mut " in function.head:
+        return "OneOutcome"
+    return "OneBytes" if "-> &" in function.head else "OneResult"
+
+
 def theorems_of(function: Function, files: List[str]) -> int:
-    """How many theorems say that the function has one result, and one outcome where memory is lent to it to be written."""
-    what = "OneOutcome" if "&mut " in function.head else "OneResult"
+    """How many theorems say it."""
+    what = theorem_for(function)
     return sum(
         f"{crate}::{name}" == function.name and says(theorems, alias, what)
         for theorems in files
@@ -122,6 +130,7 @@ SAMPLES: List[Sample] = [
     Sample("a::f has 0 theorems", sample(theorems=THEOREM_OF_F.replace("OneResult", "Anything"))),
     Sample("a::f has 0 theorems", sample(theorems=THEOREM_OF_F.replace("    f-reads", "    g-reads"))),
     Sample("a::f has 0 theorems", sample(SOURCE.replace("x: u8", "x: &mut [u8]"))),
+    Sample("a::f has 0 theorems", sample(SOURCE.replace("-> u8", "-> &[u8]"))),
     Sample("a::f has 2 theorems", sample(theorems=THEOREM_OF_F * 2)),
     Sample("a::f, which is no public function", sample(source=PRIVATE)),
 ]

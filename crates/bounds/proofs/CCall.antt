@@ -3,16 +3,16 @@
 use mathlib.Core.Path.{_≡_, refl, ap, subst}
 use mathlib.Core.Logic.{inl, inr}
 use mathlib.Core.List.{List, [], _∷_}
-use mathlib.Core.Bool.{Bool, true, false, cond}
+use mathlib.Core.Bool.{true}
 use Prim.Native.Nat.{ℕ, _<_}
 use native.Mathlib.Omega.{arith}
 use borrow.Author.Tests.{ltb-true}
-use lib.Dec.{T, eqb, leb, ltb}
+use lib.Dec.{T, leb, ltb}
 use lib.ListN.{length}
 use lib.Ieee.{Float}
 use lib.Ieee.Fits.{and-l, and-r}
 use Rattle.refusals.specs.declared.Refusal.{Refusal}
-use Rattle.refusals.specs.declared.Refusal.the-variants.{NoReading, TooShort, UnknownMark, CutShort}
+use Rattle.refusals.specs.declared.Refusal.the-variants.{TooShort, UnknownMark, CutShort}
 use Rattle.refusals.specs.declared.Permit.{Permit}
 use Rattle.refusals.specs.declared.Permit.the-variants.{Granted, Denied}
 use Rattle.refusals.specs.declared.Answer.{Answer}
@@ -21,12 +21,14 @@ use Rattle.refusals.specs.Code.{codeOf, answerCodeOf}
 use Rattle.refusals.specs.Order.{testedOf, permitted}
 use Rattle.fluids.specs.R245ca.{r245ca}
 use Rattle.fluids.proofs.Sound.{every}
-use Rattle.records.specs.declared.Mark.{Mark}
-use Rattle.records.specs.declared.Mark.the-variants.{TD, TB, TA, TP, TN, Unknown}
-use Rattle.records.specs.declared.Reading.{Reading}
-use Rattle.records.specs.declared.Reading.the-variants.{State, Search}
+use Rattle.records.specs.declared.Kind.{Kind}
+use Rattle.records.specs.declared.Kind.the-variants.{Density, FromBelow, FromAbove, NoSide}
+use Rattle.records.specs.declared.Record.{Record}
+use Rattle.records.specs.declared.Record.the-variants.{Numbers, NoReading, Unknown, Cut}
+use Rattle.records.specs.declared.Question.{Question}
+use Rattle.records.specs.declared.Question.the-variants.{State, Search}
 use Rattle.outcomes.specs.Codes.{foundAnswerOf}
-use Rattle.records.specs.Record.{densityAt, workOf, askedBy, markOf, readingOf}
+use Rattle.records.specs.Record.{recordOf, askedBy, askedOf, questionOf, densityAt, workOf}
 use Rattle.records.specs.Call.{inputsOf, permitOf, callOf, callCode}
 use Rattle.refusals.specs.Code.{OneOf}
 use Rattle.inputs.specs.Inputs.{topTest, stateTests, askedTests, statePermit, askedPermit, searchPermit}
@@ -50,13 +52,13 @@ search-permitted t P ok = simp top-permitted ok
 Answered : Answer → Type 0
 Answered a = (x : Float) × (a ≡ Number x)
 
-work-answered : (asked : Reading) → inputsOf asked ≡ Granted → Answered (workOf asked)
+work-answered : (asked : Question) → inputsOf asked ≡ Granted → Answered (workOf asked)
 unfolding Answered
 work-answered (State t ρ) ok = (_, pressure-answered r245ca r245ca-passes t ρ ok)
 work-answered (Search t P side) ok =
     let (density, word, e) = every-question-answered t P side (search-permitted t P ok) in
     (density, unfold densityAt in ap foundAnswerOf e)
-work-answered (Reading.Refused r) ok = let z : _≡_ {A = ℕ} 0 1 = cc in absurd (omega arith)
+work-answered (Question.Refused r) ok = let z : _≡_ {A = ℕ} 0 1 = cc in absurd (omega arith)
 
 -- ---- the refusals that a record's permit can deny with
 abbrev refusalCodes : List ℕ
@@ -76,21 +78,21 @@ asked-listed : (t P : Float) → Listed (askedPermit r245ca t P)
 unfolding askedPermit
 asked-listed t P = denied-code refusalCodes (askedTests r245ca t P) tt
 
-marked-listed : (mark : Mark) (s : List ℕ) → Listed (inputsOf (askedBy mark s))
-marked-listed TD s = state-listed _ _
-marked-listed TB s = asked-listed _ _
-marked-listed TA s = asked-listed _ _
-marked-listed TP s = asked-listed _ _
-marked-listed TN s = one-listed NoReading (inl refl)
-marked-listed Unknown s = one-listed UnknownMark (inr (inr (inr (inr (inr (inr (inl refl)))))))
+kind-listed : (kind : Kind) (t x : Float) → Listed (inputsOf (askedBy kind t x))
+kind-listed Density t x = state-listed t x
+kind-listed FromBelow t x = asked-listed t x
+kind-listed FromAbove t x = asked-listed t x
+kind-listed NoSide t x = asked-listed t x
 
-reading-listed : (s : List ℕ) → Listed (inputsOf (readingOf s))
-unfolding readingOf
-reading-listed s = go (eqb (length s) 18)
-  where
-    go : (b : Bool) → Listed (inputsOf (cond b (askedBy (markOf s) s) (Reading.Refused CutShort)))
-    go true = marked-listed (markOf s) s
-    go false = one-listed CutShort (inr (inr (inr (inr (inr (inr (inr (inl refl))))))))
+record-listed : (r : Record) → Listed (inputsOf (askedOf r))
+record-listed (Numbers kind x y) = kind-listed kind _ _
+record-listed NoReading = one-listed Refusal.NoReading (inl refl)
+record-listed Unknown = one-listed UnknownMark (inr (inr (inr (inr (inr (inr (inl refl)))))))
+record-listed Cut = one-listed CutShort (inr (inr (inr (inr (inr (inr (inr (inl refl))))))))
+
+question-listed : (s : List ℕ) → Listed (inputsOf (questionOf s))
+unfolding questionOf
+question-listed s = record-listed (recordOf s)
 
 room-listed : (p : Permit) (room : ℕ) → Listed p → Listed (testedOf p (leb 8 room) TooShort)
 room-listed Granted room ok = denied-code refusalCodes ((leb 8 room, TooShort) ∷ []) tt
@@ -113,21 +115,21 @@ above-0 (x ∷ xs) ok n (inr h) = above-0 xs (and-r (ltb 0 x) (every (ltb 0) xs)
 
 module _ (s out : List ℕ) where
   permit : Permit
-  permit = permitOf (readingOf s) (length out)
+  permit = permitOf (questionOf s) (length out)
 
-  answered-there : permit ≡ Granted → Answered (workOf (readingOf s))
+  answered-there : permit ≡ Granted → Answered (workOf (questionOf s))
   unfolding permit permitOf
-  answered-there g = work-answered (readingOf s) (inputs-granted (inputsOf (readingOf s)) (length out) g)
+  answered-there g = work-answered (questionOf s) (inputs-granted (inputsOf (questionOf s)) (length out) g)
 
   permit-listed : Listed permit
   unfolding permit permitOf
-  permit-listed = room-listed (inputsOf (readingOf s)) (length out) (reading-listed s)
+  permit-listed = room-listed (inputsOf (questionOf s)) (length out) (question-listed s)
 
   call-code : OneOf (callCode s out) (0 ∷ refusalCodes)
   unfolding permit callCode callOf
   call-code =
       by-permit permit
-      (λ g. inl (code-where-granted permit (workOf (readingOf s)) answered-there g))
+      (λ g. inl (code-where-granted permit (workOf (questionOf s)) answered-there g))
       (λ r d. rw d (inr (permit-listed r d)))
 
   granted-by-code : callCode s out ≡ 0 → permit ≡ Granted
@@ -137,6 +139,6 @@ module _ (s out : List ℕ) where
 pub record-calls : RecordCalls
 unfolding permit callCode callOf
 record-calls = record {
-  answered = λ s out. (granted-by-code s out, code-where-granted (permit s out) (workOf (readingOf s)) (answered-there s out));
+  answered = λ s out. (granted-by-code s out, code-where-granted (permit s out) (workOf (questionOf s)) (answered-there s out));
   code = call-code;
 }

@@ -1,37 +1,29 @@
 -- How long the fields of a line are: a line has at most 64 bytes.
 use mathlib.Core.Path.{_≡_, refl}
-use mathlib.Core.Bool.{Bool, true, false, cond}
 use mathlib.Core.List.{List, [], _∷_, _++_}
 use Prim.Native.Nat.{ℕ, zero, suc, _+_, _≤_}
 use native.Mathlib.Omega.{arith}
-use lib.Dec.{eqb}
 use lib.Ieee.{binary64, toBits}
 use lib.ListN.{length, length-append}
 use Rattle.refusals.specs.declared.Answer.{Answer}
 use Rattle.refusals.specs.declared.Answer.the-variants.{Number, Refused}
 use Rattle.refusals.specs.Code.{answerCodeOf}
-use Rattle.records.specs.declared.Mark.{Mark}
-use Rattle.records.specs.declared.Mark.the-variants.{TD, TB, TA, TP, TN, Unknown}
-use Rattle.records.specs.Record.{markOf, answerOf}
+use Rattle.records.specs.declared.Record.{Record}
+use Rattle.records.specs.declared.Record.the-variants.{Numbers, NoReading, Unknown, Cut}
+use Rattle.records.specs.Record.{recordOf, answerOf}
 use Rattle.lines.specs.Text.{decimalOf}
-use Rattle.lines.specs.Lines.{lettersOf, markText, dashes, bitsText, spaced, answerText, lineOf}
+use Rattle.lines.specs.Lines.{markOf, markText, dashes, bitsText, spaced, answerText, lineOf}
 use Rattle.lines.proofs.Digits.{digits-length, decimal-small}
 
-letters-length : (m : Mark) → length (lettersOf m) ≡ 2
-letters-length TD = refl
-letters-length TB = refl
-letters-length TA = refl
-letters-length TP = refl
-letters-length TN = refl
-letters-length Unknown = refl
+letters-length : (r : Record) (s : List ℕ) → length (markOf r s) ≡ 2
+letters-length (Numbers kind x y) s = refl
+letters-length NoReading s = refl
+letters-length Unknown s = refl
+letters-length Cut s = refl
 
 pub mark-length : (s : List ℕ) → length (markText s) ≡ 2
 unfolding markText
-mark-length s = go (eqb (length s) 18)
-  where
-    go : (b : Bool) → length (cond b (lettersOf (markOf s)) (45 ∷ 45 ∷ [])) ≡ 2
-    go true = letters-length (markOf s)
-    go false = refl
+mark-length s = letters-length (recordOf s) s
 
 pub dashes-length : (k : ℕ) → length (dashes k) ≡ k
 unfolding dashes

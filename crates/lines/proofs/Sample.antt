@@ -16,9 +16,10 @@ use Rattle.values.specs.Values.{pressureValue}
 use Rattle.properties.specs.Calls.{workedDensity, pressureOf}
 use Rattle.inputs.specs.Inputs.{statePermit}
 use Rattle.lines.specs.Letters.{bytes}
-use Rattle.records.specs.Record.{markOf, firstNumberOf, secondNumberOf, readingOf, answerOf}
+use Rattle.records.specs.Record.{numbersOf, recordOf, questionOf, answerOf}
+use Rattle.records.specs.Run.{recordAt}
 use Rattle.lines.specs.Text.{glyphOf, digitsOf, widthOf, decimalOf}
-use Rattle.lines.specs.Lines.{headerText, markText, dashes, answerText, lineOf, linesUpTo, recordCount, linesOf, textOf}
+use Rattle.lines.specs.Lines.{headerText, markText, dashes, answerText, lineOf, linesUpTo, linesOf, textOf}
 
 abbrev pub zeros : ℕ → List ℕ
 zeros zero = []
@@ -41,8 +42,8 @@ pub sample-printed :
     textOf (first ++ (second ++ (third ++ fourth)))
     ≡ bytes "n mark code bits\n1 TD 0 0000000000000000\n2 TN 1 ----------------\n3 TD 2 ----------------\n4 -- 15 ----------------\n"
 unfolding
-    textOf headerText linesOf recordCount linesUpTo lineOf markText answerText dashes decimalOf widthOf digitsOf glyphOf
-    answerOf readingOf markOf firstNumberOf secondNumberOf bytesOf
+    textOf headerText linesOf linesUpTo recordAt lineOf markText answerText dashes decimalOf widthOf digitsOf glyphOf
+    answerOf questionOf recordOf numbersOf bytesOf
     pressureOf statePermit workedDensity pressureValue pressureAt keptOf sumsAt sumsTo sumsFirst rowFirst rowOf rowAt xAt bellAt
     powerAt _↑_ r245ca lnOf lnWork lnSteps mOf eOf expOf expWork expSteps squared within minus _▷_ _⊕_ _⊖_ _⊗_
     _⊘_ add sub mul div neg ofInt round ofBits toBits le lt eq

@@ -6,11 +6,13 @@ use native.Mathlib.Omega.{arith}
 use lib.ListN.{length, take, drop, length-append, length-drop}
 use lib.Seq.{take-append-le, drop-append-le, drop-drop, drop-at}
 use borrow.Author.Tests.{lt-ltb}
-use Rattle.lines.specs.Lines.{lineOf, linesUpTo, recordCount, linesOf, linesFit, linesPut}
+use Rattle.records.specs.Run.{recordCount, recordAt}
+use Rattle.lines.specs.Lines.{lineOf, linesUpTo, linesOf, linesFit, linesPut}
 
 module _ (first : ℕ) (a b : List ℕ) where
   -- a record that lies in the first piece
-  record-before : (k : ℕ) → 18 * suc k ≤ length a → take 18 (drop (18 * k) (a ++ b)) ≡ take 18 (drop (18 * k) a)
+  record-before : (k : ℕ) → 18 * suc k ≤ length a → recordAt (a ++ b) k ≡ recordAt a k
+  unfolding recordAt
   record-before k h =
       let inside : 18 * k ≤ length a = omega arith in
       let whole : 18 ≤ length (drop (18 * k) a) = rw length-drop (omega arith) in
@@ -23,10 +25,13 @@ module _ (first : ℕ) (a b : List ℕ) where
 
   module _ (m : ℕ) (whole : length a ≡ 18 * m) where
     -- a record of the second piece
-    record-after : (k : ℕ) → drop (18 * (m + k)) (a ++ b) ≡ drop (18 * k) b
+    record-after : (k : ℕ) → recordAt (a ++ b) (m + k) ≡ recordAt b k
+    unfolding recordAt
     record-after k =
         let place : 18 * (m + k) ≡ 18 * m + 18 * k = omega arith in
-        ap (λ (n : ℕ). drop n (a ++ b)) place ∙ sym (drop-drop (18 * k) (18 * m) (a ++ b)) ∙ ap (drop (18 * k)) (drop-at a b (18 * m) whole)
+        let at : drop (18 * (m + k)) (a ++ b) ≡ drop (18 * k) b =
+        ap (λ (n : ℕ). drop n (a ++ b)) place ∙ sym (drop-drop (18 * k) (18 * m) (a ++ b)) ∙ ap (drop (18 * k)) (drop-at a b (18 * m) whole) in
+        ap (take 18) at
 
     lines-after : (k : ℕ) → linesUpTo first (a ++ b) (m + k) ≡ linesUpTo first a m ++ linesUpTo (first + m) b k
     unfolding linesUpTo
@@ -38,15 +43,15 @@ module _ (first : ℕ) (a b : List ℕ) where
         let number : first + (m + k) ≡ first + m + k = omega arith in
         ap (linesUpTo first (a ++ b)) next
         ∙ simp (lines-after k, record-after k, number)
-        (append-assoc (linesUpTo first a m) (linesUpTo (first + m) b k) (lineOf (first + m + k) (take 18 (drop (18 * k) b))))
+        (append-assoc (linesUpTo first a m) (linesUpTo (first + m) b k) (lineOf (first + m + k) (recordAt b k)))
 
     pub lines-in-two : linesOf first (a ++ b) ≡ linesOf first a ++ linesOf (first + m) b
-    unfolding linesOf recordCount
+    unfolding linesOf
     lines-in-two =
-        let all : (length (a ++ b) + 17) / 18 ≡ m + (length b + 17) / 18 = omega (arith, length-append a b) in
-        let front : (length a + 17) / 18 ≡ m = omega arith in
-        ap (linesUpTo first (a ++ b)) all ∙ lines-after ((length b + 17) / 18)
-        ∙ ap (λ (n : ℕ). linesUpTo first a n ++ linesUpTo (first + m) b ((length b + 17) / 18)) (sym front)
+        let all : recordCount (a ++ b) ≡ m + recordCount b = omega (arith, length-append a b) in
+        let front : m ≡ recordCount a = omega arith in
+        ap (linesUpTo first (a ++ b)) all ∙ lines-after (recordCount b)
+        ∙ ap (λ (n : ℕ). linesUpTo first a n ++ linesUpTo (first + m) b (recordCount b)) front
 
 -- the lines of a block that the program reads all fit its output: 3,640 records, and 64 bytes for each and 64 more
 pub block-fits : (first : ℕ) (s out : List ℕ) → length s ≤ 65520 → 233024 ≤ length out → first + 65520 < 2 ^ 64 →

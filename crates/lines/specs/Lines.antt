@@ -1,35 +1,38 @@
 -- 01, "The program `answers`": a header, then a line for each record: its number from 1, its mark, the code, and the bits, one
 -- space between fields.
 use mathlib.Core.Bool.{Bool, cond, _&&_}
-use mathlib.Core.List.{List, [], _++_}
-use Prim.Native.Nat.{ℕ, zero, suc, _+_, _*_, _/_, _^_, _<_}
-use lib.Dec.{eqb, ltb}
+use mathlib.Core.List.{List, [], _∷_, _++_}
+use Prim.Native.Nat.{ℕ, zero, suc, _+_, _/_, _^_, _<_}
+use lib.Dec.{ltb}
 use lib.Ieee.{binary64, toBits}
-use lib.ListN.{length, take, drop}
+use lib.ListN.{length}
 use Rattle.refusals.specs.declared.Answer.{Answer}
 use Rattle.refusals.specs.declared.Answer.the-variants.{Number, Refused}
 use Rattle.refusals.specs.Code.{answerCodeOf}
-use Rattle.records.specs.declared.Mark.{Mark}
-use Rattle.records.specs.declared.Mark.the-variants.{TD, TB, TA, TP, TN, Unknown}
+use Rattle.words.specs.Word.{byteAt}
+use Rattle.records.specs.declared.Record.{Record}
+use Rattle.records.specs.declared.Record.the-variants.{Numbers, NoReading, Unknown, Cut}
 use Rattle.lines.specs.Letters.{bytes}
-use Rattle.records.specs.Record.{markOf, answerOf}
+use Rattle.records.specs.Record.{recordOf, answerOf}
+use Rattle.records.specs.Run.{recordCount, recordAt}
 use Rattle.lines.specs.Text.{digitsOf, decimalOf}
 
 unfoldable pub headerText : List ℕ
 headerText = bytes "n mark code bits\n"
 
--- a mark's two letters, and ?? if unknown
-abbrev pub lettersOf : Mark → List ℕ
-lettersOf TD = bytes "TD"
-lettersOf TB = bytes "TB"
-lettersOf TA = bytes "TA"
-lettersOf TP = bytes "TP"
-lettersOf TN = bytes "TN"
-lettersOf Unknown = bytes "??"
+-- the two letters in front of a record
+abbrev pub letters : List ℕ → List ℕ
+letters s = byteAt s 0 ∷ byteAt s 1 ∷ []
 
--- -- if cut
+-- its mark; ?? if unknown, -- if cut
+abbrev pub markOf : Record → List ℕ → List ℕ
+markOf (Numbers kind x y) s = letters s
+markOf NoReading s = letters s
+markOf Unknown s = bytes "??"
+markOf Cut s = bytes "--"
+
 unfoldable pub markText : List ℕ → List ℕ
-markText s = cond (eqb (length s) 18) (lettersOf (markOf s)) (bytes "--")
+markText s = markOf (recordOf s) s
 
 -- k dashes
 unfoldable pub dashes : ℕ → List ℕ
@@ -55,14 +58,10 @@ lineOf n s = ((spaced (decimalOf n) ++ spaced (markText s)) ++ answerText (answe
 
 -- ---- files
 
--- the lines of the first k records of s, 18 bytes each, numbered from first on; what is left of s at its end is a record too
+-- the lines of the first k records of s, numbered from first on
 unfoldable pub linesUpTo : ℕ → List ℕ → ℕ → List ℕ
 linesUpTo first s zero = []
-linesUpTo first s (suc k) = linesUpTo first s k ++ lineOf (first + k) (take 18 (drop (18 * k) s))
-
--- how many records there are, a piece at the end counted
-unfoldable pub recordCount : List ℕ → ℕ
-recordCount s = (length s + 17) / 18
+linesUpTo first s (suc k) = linesUpTo first s k ++ lineOf (first + k) (recordAt s k)
 
 unfoldable pub linesOf : ℕ → List ℕ → List ℕ
 linesOf first s = linesUpTo first s (recordCount s)

@@ -1,9 +1,12 @@
 // The lines that the program answers prints.
 mod text;
 
-use records::Mark;
+use records::RECORD_LENGTH;
+use records::Record;
 use records::answer;
-use records::mark_of;
+use records::read;
+use records::record_at;
+use records::record_count;
 use refusals::Answer;
 use refusals::answer_code;
 use text::put_byte;
@@ -13,10 +16,10 @@ use text::put_pair;
 use words::bits;
 ghost use mathlib.Core.Path.{_≡_};
 ghost use mathlib.Core.List.{_++_};
-ghost use Prim.Native.Nat.{_+_, _-_, _/_, _≤_, _<_, min};
+ghost use Prim.Native.Nat.{_+_, _≤_};
 ghost use lib.ListN.{length, drop};
 ghost use Rattle.lines.specs.Text.{decimalOf, Put};
-ghost use Rattle.lines.specs.Lines.{headerText, lettersOf, markText, dashes, bitsText, spaced, answerText, lineOf, linesOf, LinesFit, linesPut};
+ghost use Rattle.lines.specs.Lines.{headerText, letters, markText, dashes, bitsText, spaced, answerText, lineOf, linesOf, LinesFit, linesPut};
 
 // The first line.
 pub fn header() -> [u8; 17]
@@ -25,28 +28,25 @@ pub fn header() -> [u8; 17]
     *b"n mark code bits\n"
 }
 
-fn put_letters(mark: Mark, out: &mut [u8], at: usize) -> usize
-    requires { ⌜ at + 2 ≤ length (now out) ⌝ }
-    ensures { λ r. ⌜ Put at (lettersOf mark) (now (out .entry)) r (now (out .exit)) ⌝ }
+// The two letters in front of a record.
+fn put_letters(s: &[u8], out: &mut [u8], at: usize) -> usize
+    requires { ⌜ (2 ≤ length (now s)) × (at + 2 ≤ length (now out)) ⌝ }
+    ensures { λ r. ⌜ Put at (letters (now (s .entry))) (now (out .entry)) r (now (out .exit)) ⌝ }
 {
-    match mark {
-        Mark::TD => put_pair(b'T', b'D', out, at),
-        Mark::TB => put_pair(b'T', b'B', out, at),
-        Mark::TA => put_pair(b'T', b'A', out, at),
-        Mark::TP => put_pair(b'T', b'P', out, at),
-        Mark::TN => put_pair(b'T', b'N', out, at),
-        Mark::Unknown => put_pair(b'?', b'?', out, at),
-    }
+    put_pair(s[0], s[1], out, at)
 }
 
 fn put_mark(s: &[u8], out: &mut [u8], at: usize) -> usize
     requires { ⌜ at + 2 ≤ length (now out) ⌝ }
     ensures { λ r. ⌜ Put at (markText (now (s .entry))) (now (out .entry)) r (now (out .exit)) ⌝ }
 {
-    if s.len() != 18 {
-        return put_pair(b'-', b'-', out, at);
+    let marked = read(s);
+    match marked {
+        Record::Numbers(_, _, _) => put_letters(s, out, at),
+        Record::NoReading => put_letters(s, out, at),
+        Record::Unknown => put_pair(b'?', b'?', out, at),
+        Record::Cut => put_pair(b'-', b'-', out, at),
     }
-    put_letters(mark_of(s), out, at)
 }
 
 fn put_dashes(out: &mut [u8], at: usize) -> usize
@@ -111,17 +111,6 @@ fn put_line(n: u64, s: &[u8], out: &mut [u8], at: usize) -> usize
     put_byte(b'\n', out, end)
 }
 
-// The end of the record that begins at i.
-fn record_end(i: usize, length: usize) -> usize
-    requires { ⌜ i ≤ length ⌝ }
-    ensures { λ r. ⌜ r ≡ i + min 18 (length - i) ⌝ }
-{
-    if length - i < 18 {
-        return length;
-    }
-    i + 18
-}
-
 // The lines of the records of input, numbered from first on, into the first places of out, and how many bytes they take. A piece
 // of 1 to 17 bytes at the end is a record cut short. An output with less than 64 bytes for each whole record and 64 more gets
 // nothing, and so it does where a number would not fit.
@@ -130,7 +119,7 @@ pub fn put_lines(input: &[u8], first: u64, out: &mut [u8]) -> usize
         × (now (out .exit) ≡ linesPut first (now (input .entry)) (now (out .entry)) ++ drop r (now (out .entry))) ⌝ }
 {
     let length = input.len();
-    if out.len() / 64 <= length / 18 {
+    if out.len() / 64 <= length / RECORD_LENGTH {
         return 0;
     }
     let numbers = 18446744073709551615 - first;
@@ -146,15 +135,13 @@ fn fitted_lines(input: &[u8], first: u64, out: &mut [u8]) -> usize
     requires { ⌜ LinesFit first (now input) (now out) ⌝ }
     ensures { λ r. ⌜ Put 0 (linesOf first (now (input .entry))) (now (out .entry)) r (now (out .exit)) ⌝ }
 {
-    let length = input.len();
+    let count = record_count(input);
     let mut k: usize = 0;
     let mut at: usize = 0;
-    while 18 * k < length {
-        let from = 18 * k;
-        let to = record_end(from, length);
+    while k < count {
         let before = k as u64;
         let n = first + before;
-        at = put_line(n, &input[from..to], out, at);
+        at = put_line(n, record_at(input, k), out, at);
         k += 1;
     }
     at

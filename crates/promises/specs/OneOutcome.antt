@@ -18,3 +18,9 @@ abbrev pub OneOutcome : (n : ℕ) (ps : List (PK n)) (r : RK n) (M : Type 0) →
 OneOutcome n ps r M memory L =
     (κs : Lfts n) (a : Dens κs ps) (x y : resT r κs .Denot) (e f : AtExit (endedOf n ps r) κs) →
     L κs a x e → L κs a y f → (x ≡ y) × (memory κs e ≡ memory κs f)
+
+-- where the result is a part of bytes lent to be read: any two hold the same bytes
+abbrev pub OneBytes : (n : ℕ) (ps : List (PK n)) (r : RK n) → ((κs : Lfts n) → resT r κs .Denot → List ℕ) → Out n ps r → Type 0
+OneBytes n ps r bytes L =
+    (κs : Lfts n) (a : Dens κs ps) (x y : resT r κs .Denot) (e f : AtExit (endedOf n ps r) κs) →
+    L κs a x e → L κs a y f → bytes κs x ≡ bytes κs y

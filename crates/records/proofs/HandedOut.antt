@@ -30,10 +30,10 @@ use Rattle.steps.specs.Steps.{pressuresOf}
 use Rattle.density.specs.Calls.{plainCellOf, plainStepOf, searched, plainOf}
 use Rattle.density.proofs.Permitted.{question, plain-cell-crosses, step-inside}
 use Rattle.steps.proofs.StepExact.{step-exact}
-use Rattle.records.specs.declared.Reading.{Reading}
-use Rattle.records.specs.declared.Reading.the-variants.{State, Search}
+use Rattle.records.specs.declared.Question.{Question}
+use Rattle.records.specs.declared.Question.the-variants.{State, Search}
 use Rattle.outcomes.specs.Codes.{foundAnswerOf}
-use Rattle.records.specs.Record.{readingOf, densityAt, workOf, answerOf}
+use Rattle.records.specs.Record.{questionOf, densityAt, workOf, answerOf}
 use Rattle.records.specs.Call.{permitOf, callOf}
 
 permitted-finite : (p : Permit) (a : Answer) → HandsOutFinite a → HandsOutFinite (permitted p a)
@@ -69,15 +69,15 @@ density-finite T P side = go (searchPermit r245ca T P 1664 true) refl
         place-finite T side (plainStepOf side p P 1664)
         (step-inside p P (plainCellOf side (atEnds p) P 1664) (plain-cell-crosses p P 1664 side asked))
 
-work-finite : (asked : Reading) → HandsOutFinite (workOf asked)
+work-finite : (asked : Question) → HandsOutFinite (workOf asked)
 work-finite (State T ρ) = pressure-finite T ρ
 work-finite (Search T P side) = density-finite T P side
-work-finite (Reading.Refused r) = tt
+work-finite (Question.Refused r) = tt
 
 pub answer-finite : (s : List ℕ) → HandsOutFinite (answerOf s)
 unfolding answerOf
-answer-finite s = work-finite (readingOf s)
+answer-finite s = work-finite (questionOf s)
 
 pub call-finite : (s : List ℕ) (room : ℕ) → HandsOutFinite (callOf s room)
 unfolding callOf
-call-finite s room = permitted-finite (permitOf (readingOf s) room) (workOf (readingOf s)) (work-finite (readingOf s))
+call-finite s room = permitted-finite (permitOf (questionOf s) room) (workOf (questionOf s)) (work-finite (questionOf s))

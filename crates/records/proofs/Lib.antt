@@ -1,2 +1,3 @@
 pub mod HandedOut
 pub mod Theorems
+pub mod Whole

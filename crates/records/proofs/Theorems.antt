@@ -26,11 +26,11 @@ use Rattle.density.specs.declared.Found.{Found}
 use Rattle.density.specs.State.{foundStateOf}
 use Rattle.steps.specs.Steps.{pressuresOf}
 use Rattle.density.specs.Calls.{plainStepOf, searched, plainOf}
-use Rattle.records.specs.declared.Reading.{Reading}
-use Rattle.records.specs.declared.Reading.the-variants.{State, Search}
+use Rattle.records.specs.declared.Question.{Question}
+use Rattle.records.specs.declared.Question.the-variants.{State, Search}
 use Rattle.outcomes.specs.Codes.{foundAnswerOf}
 use Rattle.inputs.specs.Inputs.{topTest, statePermit, askedPermit, searchPermit}
-use Rattle.records.specs.Record.{readingOf, densityAt, workOf, answerOf}
+use Rattle.records.specs.Record.{questionOf, densityAt, workOf, answerOf}
 use Rattle.records.specs.Call.{inputsOf, permitOf, callOf, outputOf, callCode, callOutput}
 
 -- ---- the tests before the work are the work's own
@@ -72,10 +72,10 @@ search-work T P side =
     let work = foundAnswerOf (foundStateOf T side (plainStepOf side (pressuresOf T) P 1664)) in
     ap (permitted p) (density-is T P side) ∙ twice p work ∙ sym (density-is T P side)
 
-work-permitted : (asked : Reading) → permitted (inputsOf asked) (workOf asked) ≡ workOf asked
+work-permitted : (asked : Question) → permitted (inputsOf asked) (workOf asked) ≡ workOf asked
 work-permitted (State T ρ) = state-work T ρ
 work-permitted (Search T P side) = search-work T P side
-work-permitted (Reading.Refused r) = refl
+work-permitted (Question.Refused r) = refl
 
 -- ---- the room
 
@@ -86,16 +86,16 @@ room-last (Denied r) room a h = refl
 -- with room for the number, the call answers what the program prints
 pub with-room : (s : List ℕ) (room : ℕ) → 8 ≤ room → callOf s room ≡ answerOf s
 unfolding callOf permitOf answerOf
-with-room s room h = room-last (inputsOf (readingOf s)) room (workOf (readingOf s)) h ∙ work-permitted (readingOf s)
+with-room s room h = room-last (inputsOf (questionOf s)) room (workOf (questionOf s)) h ∙ work-permitted (questionOf s)
 
 no-room : (p : Permit) (room : ℕ) (a : Answer) → room < 8 → permitted (testedOf p (leb 8 room) TooShort) a ≡ permitted p (Refused TooShort)
 no-room Granted room a h = simp (lt-leb 8 room h)
 no-room (Denied r) room a h = refl
 
 -- without, it answers 7 unless 15, 14, 1, 2, 3, 4 or 5 comes before
-pub without-room : (s : List ℕ) (room : ℕ) → room < 8 → callOf s room ≡ permitted (inputsOf (readingOf s)) (Refused TooShort)
+pub without-room : (s : List ℕ) (room : ℕ) → room < 8 → callOf s room ≡ permitted (inputsOf (questionOf s)) (Refused TooShort)
 unfolding callOf permitOf
-without-room s room h = no-room (inputsOf (readingOf s)) room (workOf (readingOf s)) h
+without-room s room h = no-room (inputsOf (questionOf s)) room (workOf (questionOf s)) h
 
 -- ---- the output
 

@@ -15,23 +15,23 @@ use Rattle.refusals.specs.Order.{testedOf, permitted}
 use Rattle.words.specs.Word.{withWord}
 use Rattle.fluids.specs.R245ca.{r245ca}
 use Rattle.inputs.specs.Inputs.{statePermit, askedPermit}
-use Rattle.records.specs.declared.Reading.{Reading}
-use Rattle.records.specs.declared.Reading.the-variants.{State, Search}
-use Rattle.records.specs.Record.{readingOf, workOf}
+use Rattle.records.specs.declared.Question.{Question}
+use Rattle.records.specs.declared.Question.the-variants.{State, Search}
+use Rattle.records.specs.Record.{questionOf, workOf}
 
--- 15, 14, 1 stand in the reading; then 2, 3, and 4 or 5
-abbrev pub inputsOf : Reading → Permit
+-- 15, 14, 1 stand in the question; then 2, 3, and 4 or 5
+abbrev pub inputsOf : Question → Permit
 inputsOf (State T ρ) = statePermit r245ca T ρ
 inputsOf (Search T P side) = askedPermit r245ca T P
-inputsOf (Reading.Refused r) = Denied r
+inputsOf (Question.Refused r) = Denied r
 
 -- 7 after those: an output under 8 bytes
-unfoldable pub permitOf : Reading → ℕ → Permit
-permitOf asked room = testedOf (inputsOf asked) (leb 8 room) TooShort
+unfoldable pub permitOf : Question → ℕ → Permit
+permitOf question room = testedOf (inputsOf question) (leb 8 room) TooShort
 
 -- what is handed out for the record s where the output has room bytes
 unfoldable pub callOf : List ℕ → ℕ → Answer
-callOf s room = permitted (permitOf (readingOf s) room) (workOf (readingOf s))
+callOf s room = permitted (permitOf (questionOf s) room) (workOf (questionOf s))
 
 -- the output afterwards: the number's bits in its first eight bytes, the lowest first; as it was where refused
 abbrev pub outputOf : Answer → List ℕ → List ℕ

@@ -1,7 +1,8 @@
 // 01's order before the work: 15, 14, 1, 2, 3, 4, 5, 7; then the work, and its number into the output.
-use crate::Reading;
-use crate::record::read;
-use crate::record::worked;
+use crate::Question;
+use crate::reader::read;
+use crate::work::asked;
+use crate::work::worked;
 use inputs::asked_inputs;
 use inputs::state_inputs;
 use refusals::Answer;
@@ -16,21 +17,21 @@ ghost use Rattle.refusals.specs.Code.{answerCodeOf};
 ghost use Rattle.records.specs.Call.{inputsOf, permitOf, outputOf, callCode, callOutput};
 
 // 15, 14, 1, 2, 3, 4, 5.
-fn inputs(asked: Reading) -> Permit
-    ensures { λ r. ⌜ r ≡ inputsOf asked ⌝ }
+fn inputs(question: Question) -> Permit
+    ensures { λ r. ⌜ r ≡ inputsOf question ⌝ }
 {
-    match asked {
-        Reading::State(t, rho) => state_inputs(t, rho),
-        Reading::Search(t, p, _) => asked_inputs(t, p),
-        Reading::Refused(r) => Permit::Denied(r),
+    match question {
+        Question::State(t, rho) => state_inputs(t, rho),
+        Question::Search(t, p, _) => asked_inputs(t, p),
+        Question::Refused(r) => Permit::Denied(r),
     }
 }
 
 // 7 after those, where the output has less than 8 bytes.
-fn permit(asked: Reading, room: usize) -> Permit
-    ensures { λ r. ⌜ r ≡ permitOf asked room ⌝ }
+fn permit(question: Question, room: usize) -> Permit
+    ensures { λ r. ⌜ r ≡ permitOf question room ⌝ }
 {
-    let before = inputs(asked);
+    let before = inputs(question);
     tested(before, 8 <= room, Refusal::TooShort)
 }
 
@@ -53,13 +54,13 @@ pub fn answer_into(marked: &[u8], out: &mut [u8]) -> u32
     ensures { λ r. ⌜ (r ≡ callCode (now (marked .entry)) (now (out .entry)))
         × (now (out .exit) ≡ callOutput (now (marked .entry)) (now (out .entry))) ⌝ }
 {
-    let asked = read(marked);
+    let question = asked(read(marked));
     let room = out.len();
-    let permitted = permit(asked, room);
+    let permitted = permit(question, room);
     match permitted {
         Permit::Denied(r) => code(r),
         Permit::Granted => {
-            let a = worked(asked);
+            let a = worked(question);
             handed_out(a, out)
         }
     }

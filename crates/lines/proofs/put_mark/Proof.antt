@@ -1,50 +1,104 @@
--- `put_mark` meets its contract: dashes where the record is cut, else its letters. Assumes nothing.
-use mathlib.Core.Path.{_∙_, ap}
-use borrow.Author.Tests.{eq-eqb, ne-eqb}
-use Rattle.lines.specs.Lines.{lettersOf, markText}
+-- `put_mark` meets its contract, by what was read: a record with letters is whole. Assumes nothing.
+use mathlib.Core.Path.{_≡_, sym, _∙_, ap}
+use mathlib.Core.List.{List}
+use Prim.Native.Nat.{ℕ}
+use native.Mathlib.Omega.{arith}
+use Rattle.records.specs.declared.Record.{Record}
+use Rattle.records.specs.Record.{recordOf}
+use Rattle.records.proofs.Whole.{whole-length}
+use Rattle.lines.specs.Lines.{markOf, markText}
 use Rattle.lines.proofs.Placing.{as-text}
 use borrow.Author.Needs.{needs}
 use Rattle.lines.proofs.put_mark.Statement.{statement}
 use Rattle.lines.proofs.put_mark.Tie as tie
-use Rattle.lines.proofs.put_mark.Reads as reads
-use Rattle.lines.proofs.put_mark.Lts as lts
-use Rattle.lines.proofs.put_letters.Reads as put-letters-reads
-use Rattle.records.proofs.mark_of.Reads as mark-of-reads
-use Rattle.lines.proofs.text.put_pair.Reads as put-pair-reads
+
+mark-is : (s : List ℕ) {r known : Record} → r ≡ recordOf s → r ≡ known → markOf known s ≡ markText s
+unfolding markText
+mark-is s e f = ap (λ (r : Record). markOf r s) (sym f ∙ e)
+
+read-requires : tie.Need-read-requires
+read-requires c κs = search needs
+
+enum-told : tie.Need-enum-told
+enum-told c = search needs
+
+put-letters-requires : tie.Need-put-letters-requires
+put-letters-requires c κs =
+    let read = c .before .before .before in
+    let whole = whole-length _ (sym (c .before .enum-told .given .1) ∙ read .read .ensures) tt in
+    (omega arith, search needs)
+
+enum-told-2 : tie.Need-enum-told-2
+enum-told-2 c = search needs
+
+put-letters-requires-2 : tie.Need-put-letters-requires-2
+put-letters-requires-2 c κs =
+    let read = c .before .before .before in
+    let whole = whole-length _ (sym (c .before .enum-told2 .given .1) ∙ read .read .ensures) tt in
+    (omega arith, search needs)
+
+enum-told-3 : tie.Need-enum-told-3
+enum-told-3 c = search needs
 
 put-pair-requires : tie.Need-put-pair-requires
 put-pair-requires c κs = search needs
+
+enum-told-4 : tie.Need-enum-told-4
+enum-told-4 c = search needs
+
+put-pair-requires-2 : tie.Need-put-pair-requires-2
+put-pair-requires-2 c κs = search needs
 
 same-length : tie.Need-same-length
 same-length c = search needs
 
 returns : tie.Need-returns
-unfolding markText
-returns c = as-text (simp (ne-eqb _ _ (c .before .before .before .before .if1 .taken))) (c .before .before .put-pair .ensures)
-
-mark-of-requires : tie.Need-mark-of-requires
-mark-of-requires c κs = search needs
-
-put-letters-requires : tie.Need-put-letters-requires
-put-letters-requires c κs = search needs
+returns c =
+    let told = c .before .before .before .before in
+    as-text (mark-is _ (told .before .before .read .ensures) (told .enum-told .given .1)) (c .before .before .put-letters .ensures)
 
 same-length-2 : tie.Need-same-length-2
 same-length-2 c = search needs
 
 returns-2 : tie.Need-returns-2
-unfolding markText
 returns-2 c =
-    let mark = c .before .before .before .before in
-    as-text (ap lettersOf (mark .mark-of .ensures) ∙ simp (eq-eqb _ _ (mark .before .if1 .left))) (c .before .before .put-letters .ensures)
+    let told = c .before .before .before .before in
+    as-text (mark-is _ (told .before .before .read .ensures) (told .enum-told2 .given .1)) (c .before .before .put-letters2 .ensures)
+
+same-length-3 : tie.Need-same-length-3
+same-length-3 c = search needs
+
+returns-3 : tie.Need-returns-3
+returns-3 c =
+    let told = c .before .before .before .before in
+    as-text (mark-is _ (told .before .before .read .ensures) (told .enum-told3 .given .1)) (c .before .before .put-pair .ensures)
+
+same-length-4 : tie.Need-same-length-4
+same-length-4 c = search needs
+
+returns-4 : tie.Need-returns-4
+returns-4 c =
+    let told = c .before .before .before .before in
+    as-text (mark-is _ (told .before .before .read .ensures) (told .enum-told4 .given .1)) (c .before .before .put-pair2 .ensures)
 
 pub put-mark-spec : {M : Type 1} → statement M
 put-mark-spec =
     tie.close
     (tie.spec
+    read-requires
+    enum-told
+    put-letters-requires
+    enum-told-2
+    put-letters-requires-2
+    enum-told-3
     put-pair-requires
+    enum-told-4
+    put-pair-requires-2
     same-length
     returns
-    mark-of-requires
-    put-letters-requires
     same-length-2
-    returns-2)
+    returns-2
+    same-length-3
+    returns-3
+    same-length-4
+    returns-4)

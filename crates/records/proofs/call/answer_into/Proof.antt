@@ -11,31 +11,29 @@ use Rattle.refusals.specs.declared.Permit.the-variants.{Granted, Denied}
 use Rattle.refusals.specs.Code.{answerCodeOf}
 use Rattle.refusals.specs.Order.{permitted}
 use Rattle.refusals.proofs.Needed.{permitted-granted, permitted-denied}
-use Rattle.records.specs.declared.Reading.{Reading}
-use Rattle.records.specs.Record.{readingOf, workOf}
+use Rattle.records.specs.declared.Record.{Record}
+use Rattle.records.specs.declared.Question.{Question}
+use Rattle.records.specs.Record.{recordOf, askedOf, questionOf, workOf}
 use Rattle.records.specs.Call.{permitOf, callOf, outputOf, callCode, callOutput}
 use borrow.Author.Needs.{needs}
 use Rattle.records.proofs.call.answer_into.Statement.{statement}
 use Rattle.records.proofs.call.answer_into.Tie as tie
-use Rattle.records.proofs.call.answer_into.Reads as reads
-use Rattle.records.proofs.call.answer_into.Lts as lts
-use Rattle.records.proofs.record.worked.Reads as worked-reads
-use Rattle.records.proofs.call.handed_out.Reads as handed-out-reads
-use Rattle.records.proofs.call.permit.Reads as permit-reads
-use Rattle.records.proofs.record.read.Reads as read-reads
-use Rattle.refusals.proofs.code.Reads as code-reads
 
 -- the call's outcome, once what the record asks and whether it is permitted are known
-module _ (s out : List ℕ) (asked : Reading) (p : Permit) (e : asked ≡ readingOf s) (f : p ≡ permitOf asked (length out)) where
-  call-is : permitted p (workOf asked) ≡ callOf s (length out)
+module _ (s out : List ℕ) (question : Question) (p : Permit) (e : question ≡ questionOf s) (f : p ≡ permitOf question (length out)) where
+  call-is : permitted p (workOf question) ≡ callOf s (length out)
   unfolding callOf
   call-is = simp (f, e)
 
   call-denied : (r : Refusal) → p ≡ Denied r → callOf s (length out) ≡ Refused r
-  call-denied r g = sym call-is ∙ permitted-denied p (workOf asked) r g
+  call-denied r g = sym call-is ∙ permitted-denied p (workOf question) r g
 
-  call-granted : p ≡ Granted → callOf s (length out) ≡ workOf asked
-  call-granted g = sym call-is ∙ permitted-granted p (workOf asked) g
+  call-granted : p ≡ Granted → callOf s (length out) ≡ workOf question
+  call-granted g = sym call-is ∙ permitted-granted p (workOf question) g
+
+read-asked : (s : List ℕ) {q : Question} {r : Record} → q ≡ askedOf r → r ≡ recordOf s → q ≡ questionOf s
+unfolding questionOf
+read-asked s e f = e ∙ ap askedOf f
 
 handed : (s out : List ℕ) {a : Answer} {n : ℕ} {now : List ℕ} → callOf s (length out) ≡ a → n ≡ answerCodeOf a → now ≡ outputOf a out →
     (n ≡ callCode s out) × (now ≡ callOutput s out)
@@ -44,6 +42,9 @@ handed s out e p q = (p ∙ sym (ap answerCodeOf e), q ∙ sym (ap (λ (a : Answ
 
 read-requires : tie.Need-read-requires
 read-requires c κs = search needs
+
+asked-requires : tie.Need-asked-requires
+asked-requires c κs = search needs
 
 permit-requires : tie.Need-permit-requires
 permit-requires c κs = search needs
@@ -66,9 +67,10 @@ handed-out-requires c κs = search needs
 returns : tie.Need-returns
 returns c =
     let permit = c .before .before .before .before in
-    let read = permit .before in
+    let asked = permit .before in
+    let read = asked .before in
     let args = read .before .before .before .args in
-    let denied = call-denied (args .marked .now) (args .out .now) _ _ (read .read .ensures) (permit .permit .ensures) _ (c .before .before .permitted .given .1) in
+    let denied = call-denied (args .marked .now) (args .out .now) _ _ (read-asked _ (asked .asked .ensures) (read .read .ensures)) (permit .permit .ensures) _ (c .before .before .permitted .given .1) in
     handed (args .marked .now) (args .out .now) denied (c .code .ensures) refl
 
 same-length : tie.Need-same-length
@@ -79,9 +81,10 @@ returns-2 c =
     let out = c .before .before in
     let work = out .before .before in
     let permit = work .before .before .before in
-    let read = permit .before in
+    let asked = permit .before in
+    let read = asked .before in
     let args = read .before .before .before .args in
-    let granted = call-granted (args .marked .now) (args .out .now) _ _ (read .read .ensures) (permit .permit .ensures) (work .before .enum-told .given .1) in
+    let granted = call-granted (args .marked .now) (args .out .now) _ _ (read-asked _ (asked .asked .ensures) (read .read .ensures)) (permit .permit .ensures) (work .before .enum-told .given .1) in
     handed (args .marked .now) (args .out .now) (granted ∙ sym (work .worked .ensures)) (out .handed-out .ensures .0) (out .handed-out .ensures .1)
 
 pub answer-into-spec : {M : Type 1} → statement M
@@ -89,6 +92,7 @@ answer-into-spec =
     tie.close
     (tie.spec
     read-requires
+    asked-requires
     permit-requires
     enum-known-permitted
     code-requires

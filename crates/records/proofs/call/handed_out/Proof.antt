@@ -6,11 +6,6 @@ use Rattle.records.specs.Call.{outputOf}
 use borrow.Author.Needs.{needs}
 use Rattle.records.proofs.call.handed_out.Statement.{statement}
 use Rattle.records.proofs.call.handed_out.Tie as tie
-use Rattle.records.proofs.call.handed_out.Reads as reads
-use Rattle.records.proofs.call.handed_out.Lts as lts
-use Rattle.refusals.proofs.code.Reads as code-reads
-use Rattle.words.proofs.bits.Reads as bits-reads
-use Rattle.words.proofs.put_word.Reads as put-word-reads
 
 enum-known-a : tie.Need-enum-known-a
 enum-known-a c = search needs

@@ -3,12 +3,8 @@ use mathlib.Core.Path.{_∙_, ap}
 use Rattle.outcomes.specs.Codes.{foundAnswerOf}
 use Rattle.records.specs.Record.{densityAt}
 use borrow.Author.Needs.{needs}
-use Rattle.records.proofs.record.density_at.Statement.{statement}
-use Rattle.records.proofs.record.density_at.Tie as tie
-use Rattle.records.proofs.record.density_at.Reads as reads
-use Rattle.records.proofs.record.density_at.Lts as lts
-use Rattle.density.proofs.plain.Reads as plain-reads
-use Rattle.outcomes.proofs.found_answer.Reads as found-answer-reads
+use Rattle.records.proofs.work.density_at.Statement.{statement}
+use Rattle.records.proofs.work.density_at.Tie as tie
 
 plain-requires : tie.Need-plain-requires
 plain-requires c κs = search needs
