@@ -2,8 +2,6 @@
 use mathlib.Core.Path.{_≡_, refl, sym, subst}
 use mathlib.Core.Bool.{Bool, true, false, cond, _&&_}
 use mathlib.Core.List.{[], _∷_}
-use Prim.Native.Nat.{ℕ}
-use native.Mathlib.Omega.{arith}
 use lib.Dec.{T}
 use lib.Ieee.{Float, nan, inf, fin, le, lt, eq, ofInt, round}
 use lib.Ieee.Fits.{and-i, and-l, and-r}
@@ -29,7 +27,7 @@ use Rattle.intervals.proofs.Fractions.{holds, is-true}
 pub refused-granted : (p : Permit) (v : Float) → (p ≡ Denied WorkNotFinite → ⊥) → permitted p (answerFrom v) ≡ Refused WorkNotFinite → (p ≡ Granted) × (finite v ≡ false)
 refused-granted Granted nan n e = (refl, refl)
 refused-granted Granted (inf s) n e = (refl, refl)
-refused-granted Granted (fin s m d) n e = let z : _≡_ {A = ℕ} 0 1 = cc in absurd (omega arith)
+refused-granted Granted (fin s m d) n e = (refl, cc)
 refused-granted (Denied r) v n e = let same : r ≡ WorkNotFinite = cc in absurd (n (subst (λ (x : Refusal). Denied x ≡ Denied WorkNotFinite) (sym same) refl))
 
 pub answered : (p : Permit) (v : Float) → p ≡ Granted → T (finite v) → permitted p (answerFrom v) ≡ Number v

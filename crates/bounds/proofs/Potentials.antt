@@ -4,8 +4,6 @@ use mathlib.Core.Path.{_≡_, refl, sym, ap, _∙_, subst}
 use mathlib.Core.Logic.{_↔_}
 use mathlib.Core.Bool.{Bool, true, false, not}
 use mathlib.Core.List.{[], _∷_}
-use Prim.Native.Nat.{ℕ}
-use native.Mathlib.Omega.{arith}
 use lib.Dec.{T}
 use lib.Ieee.{Float, nan, fin, le, eq, isNan, round}
 use lib.Ieee.Scale.{finite}
@@ -37,7 +35,7 @@ use Rattle.bounds.proofs.NeverTwelve.{finite-where-granted}
 -- ---- what a granted permit says
 also-granted : (p q : Permit) → also p q ≡ Granted → (p ≡ Granted) × (q ≡ Granted)
 also-granted Granted q e = (refl, e)
-also-granted (Denied r) q e = let z : _≡_ {A = ℕ} 0 1 = cc in absurd (omega arith)
+also-granted (Denied r) q e = (cc, cc)
 
 not-true : (b : Bool) → not b ≡ true → b ≡ false
 not-true true e = sym e

@@ -58,6 +58,7 @@ use Rattle.preparation.proofs.PreparationFails.{fails-with-twelve, fails-exactl
 use Rattle.intervals.proofs.Fractions.{holds, is-true}
 use Rattle.ranges.proofs.Entry.{temperature-finite, finite-in-range}
 use Rattle.refusals.proofs.InOrder.{AllPassed, never-denied}
+use Rattle.refusals.proofs.Apart.{other-code}
 use Rattle.ranges.proofs.R245ca.{r245ca-passes, r245ca-rises}
 use Rattle.search.proofs.AmongNumbers.{HasStep, below-found, above-found, above-refuses, above-refuses-exactly, quick-not-12}
 
@@ -120,9 +121,6 @@ module _ (t P : Float) (c : ℕ) (ok : searchPermit r245ca t P c true ≡ Grante
   from-below-exactly = refuses-exactly t P c ok all-numbers
 
 -- ---- a search at permitted inputs, by what its place is
-twelve-not-eight : WorkNotFinite ≡ NoCell → ⊥
-twelve-not-eight e = let z : _≡_ {A = ℕ} 0 1 = cc in omega arith
-
 state-found : (t : Float) (side : Side) (x : Located) → HasStep x → (density : Float) × (word : Word) × (foundStateOf t side x ≡ State density word)
 unfolding foundStateOf
 state-found t side x (k, e) = (stepDensityOf k, stateWordOf t side, rw e)
@@ -151,9 +149,9 @@ module _ (t P : Float) (c : ℕ) (ok : searchPermit r245ca t P c true ≡ Grante
   starts-low : le (pressuresOf t 0) P ≡ true
   starts-low = le-of-not-lt (pressuresOf t 0) P (number-at-zero t (search-passed t P c true ok .1 .0)) (asked .number) (asked .start)
 
-  place-not-12 : (side : Side) → plainStepOf side (pressuresOf t) P c ≡ Located.Refused WorkNotFinite → ⊥
-  place-not-12 FromBelow r = twelve-not-eight (any.refuses-with-eight (pressuresOf t) P c (all-numbers t P c ok) WorkNotFinite r)
-  place-not-12 FromAbove r = twelve-not-eight (above-refuses (pressuresOf t) P c (asked .some-cell) (all-numbers t P c ok) starts-low WorkNotFinite r .0)
+  place-refuses : (side : Side) (e : Refusal) → plainStepOf side (pressuresOf t) P c ≡ Located.Refused e → e ≡ NoCell
+  place-refuses FromBelow e r = any.refuses-with-eight (pressuresOf t) P c (all-numbers t P c ok) e r
+  place-refuses FromAbove e r = above-refuses (pressuresOf t) P c (asked .some-cell) (all-numbers t P c ok) starts-low e r .0
 
   place-refused : (side : Side) (e : Refusal) → plainOf t P c side ≡ Found.Refused e → plainStepOf side (pressuresOf t) P c ≡ Located.Refused e
   unfolding plainOf
@@ -161,8 +159,7 @@ module _ (t P : Float) (c : ℕ) (ok : searchPermit r245ca t P c true ≡ Grante
 
   -- it refuses with 8 only
   pub only-eight : (side : Side) (e : Refusal) → plainOf t P c side ≡ Found.Refused e → e ≡ NoCell
-  only-eight FromBelow e r = any.refuses-with-eight (pressuresOf t) P c (all-numbers t P c ok) e (place-refused FromBelow e r)
-  only-eight FromAbove e r = above-refuses (pressuresOf t) P c (asked .some-cell) (all-numbers t P c ok) starts-low e (place-refused FromAbove e r) .0
+  only-eight side e r = place-refuses side e (place-refused side e r)
 
   -- from above exactly if the pressure at the top is not above P
   from-above-exactly : (plainOf t P c FromAbove ≡ Found.Refused NoCell) ↔ (le (pressuresOf t (endStep c)) P ≡ true)
@@ -191,7 +188,7 @@ module _ (t P : Float) (c : ℕ) (side : Side) where
   unfolding plainOf
   plain-never-12 r =
       searched-refuses (searchPermit r245ca t P c true) t side (plainStepOf side (pressuresOf t) P c) WorkNotFinite r
-      (inputs-not-12 t P c true) (λ ok x. place-not-12 t P c ok side x)
+      (inputs-not-12 t P c true) (λ ok x. other-code tt (place-refuses t P c ok side WorkNotFinite x))
 
   -- nor does the quick one, whatever its lists hold
   pub quick-never-12 : (g l : List Float) → quickOf t P c side g l ≡ Found.Refused WorkNotFinite → ⊥
@@ -207,7 +204,7 @@ module _ (t P : Float) (c : ℕ) (side : Side) where
 -- ---- an answered density encloses P, with no proviso for the side from below
 granted-of : (i : Permit) (f : Found) (density : Float) (word : Word) → searched i f ≡ State density word → i ≡ Granted
 granted-of Granted f density word e = refl
-granted-of (Denied r) f density word e = let z : _≡_ {A = ℕ} 0 1 = cc in absurd (omega arith)
+granted-of (Denied r) f density word e = cc
 
 pub plain-encloses : (t P : Float) (c : ℕ) (side : Side) (density : Float) (word : Word) → plainOf t P c side ≡ State density word → Answers t P c side density word
 unfolding plainOf

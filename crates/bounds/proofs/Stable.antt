@@ -3,8 +3,9 @@
 -- S2 then, lies under 2⁻⁹³⁰: a sum of two binary64 numbers is 0 or not very small.
 use mathlib.Core.Path.{_≡_, refl, sym, ap, _∙_, subst}
 use mathlib.Core.Logic.{_↔_, inl, inr}
-use mathlib.Core.Bool.{Bool, true, false, not, cond, _&&_}
-use Prim.Native.Nat.{ℕ, _^_}
+use mathlib.Core.Bool.{Bool, true, false, not, _&&_}
+use mathlib.Core.List.{[], _∷_}
+use Prim.Native.Nat.{_^_}
 use native.Mathlib.Omega.{arith}
 use lib.Dec.{T}
 use lib.Ieee.{Float, fin, binary64, fits, ofInt, round, add, neg, le, lt, eq}
@@ -16,6 +17,7 @@ use Rattle.refusals.specs.declared.Permit.the-variants.{Granted, Denied}
 use Rattle.refusals.specs.declared.Answer.the-variants.{Refused}
 use Rattle.refusals.specs.Order.{permitted}
 use Rattle.refusals.proofs.Needed.{test-passed}
+use Rattle.refusals.proofs.InOrder.{never-denied}
 use Rattle.arithmetic.specs.Checked.{real, two⁻, between, _⊕_, _⊗_}
 use Rattle.elementary.specs.Root.{rootOf}
 use Rattle.arithmetic.specs.Answered.{answerFrom}
@@ -39,11 +41,9 @@ use Rattle.bounds.proofs.NeverTwelve.{finite-where-granted}
 -- ---- V, K and Q are numbers, so the permit of 11 does not deny with 12
 stable-denied : (v k q : Float) → T (finite v) → T (finite k) → T (finite q) → stableOf v k q ≡ Denied WorkNotFinite → ⊥
 unfolding stableOf
-stable-denied v k q fv fk fq e = go (not (le q (real 0)) && not (le v (real 0))) (rw (is-true (finite v) fv, is-true (finite k) fk, is-true (finite q) fq) at e)
-  where
-    go : (b : Bool) → cond b Granted (Denied NotStable) ≡ Denied WorkNotFinite → ⊥
-    go true e = let z : _≡_ {A = ℕ} 0 1 = cc in omega arith
-    go false e = let z : _≡_ {A = ℕ} 0 1 = cc in omega arith
+stable-denied v k q fv fk fq e =
+    never-denied WorkNotFinite ((not (le q (real 0)) && not (le v (real 0)), NotStable) ∷ []) tt
+    (rw (is-true (finite v) fv, is-true (finite k) fk, is-true (finite q) fq) at e)
 
 stable-positive : (v k q : Float) → T (finite v) → T (finite k) → T (finite q) → stableOf v k q ≡ Granted → le q (real 0) ≡ false
 unfolding stableOf

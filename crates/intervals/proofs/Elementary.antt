@@ -1,7 +1,7 @@
 -- exp, ln and root refuse with 12 exactly outside their stated ranges: each range is worked as one interval, and it is known.
 use mathlib.Core.Path.{_≡_, refl}
 use mathlib.Core.Logic.{_↔_}
-use mathlib.Core.Bool.{Bool, true, false, cond}
+use mathlib.Core.Bool.{Bool, true, false, cond, true≢false}
 use Prim.Native.Nat.{ℕ, zero, suc, _+_, _-_, _^_, _≤_, _<_}
 use native.Mathlib.Omega.{arith}
 use lib.Dec.{T, ltb, lit<}
@@ -22,6 +22,7 @@ use Rattle.elementary.proofs.Fields.{m-field-small}
 use Rattle.exponentials.proofs.Literals.{finite-700, finite-minus-700}
 use Rattle.elementary.proofs.Literals.{finite-1, finite-1e8}
 use Rattle.refusals.proofs.Tests.{by}
+use Rattle.refusals.proofs.Apart.{number≢refused}
 use Rattle.intervals.proofs.Fractions.{holds}
 use Rattle.intervals.proofs.Rounding.{round-anti, signs-apart}
 use Rattle.intervals.proofs.Interval.{interval, tested, known, in-known, pick, lesser, greater, hull, across, _▶_, lies}
@@ -125,10 +126,10 @@ called-12 x v inRange number none = (
 )
   where
     other : Refused InputNotFinite ≡ Refused WorkNotFinite → ⊥
-    other e = let z : _≡_ {A = ℕ} 0 1 = cc in omega arith
+    other e = true≢false (cc)
 
     not-refused : (v : Float) → T (finite v) → answerFrom v ≡ Refused WorkNotFinite → ⊥
-    not-refused (fin s m e) t r = let z : _≡_ {A = ℕ} 0 1 = cc in omega arith
+    not-refused (fin s m e) t r = number≢refused r
 
 module _ (x : Float) where
   pub exponential-12 : (exponentialOf x ≡ Refused WorkNotFinite) ↔ ((finite x ≡ true) × (between (minus (real 700)) x (real 700) ≡ false))

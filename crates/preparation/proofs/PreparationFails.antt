@@ -28,7 +28,7 @@ use Rattle.preparation.specs.Prepare.{preparedBy, prepareOf, leftBy, gre
 
 refused-by : (b : Bool) (e : Refusal) → preparedBy Granted b ≡ Prepared.Refused e → (b ≡ true) × (e ≡ WorkNotFinite)
 refused-by true e r = (refl, cc)
-refused-by false e r = let z : _≡_ {A = ℕ} 0 1 = cc in absurd (omega arith)
+refused-by false e r = (cc, cc)
 
 module _ (t : Float) (c : ℕ) (g l : List Float) (permitted : preparePermit r245ca t c (roomOf c (length g) (length l)) ≡ Granted) where
   pub fails-with-twelve : (e : Refusal) → prepareOf t c g l ≡ Prepared.Refused e → e ≡ WorkNotFinite

@@ -5,14 +5,15 @@ use mathlib.Core.Logic.{_⊎_, inl, inr}
 use mathlib.Core.Bool.{Bool, true, false, not, cond, _&&_, _||_}
 use mathlib.Core.List.{List, [], _∷_, _++_}
 use Prim.Native.Nat.{ℕ}
-use native.Mathlib.Omega.{arith}
 use borrow.Author.Tests.{eqb-true}
-use lib.Dec.{T, eqb, eqb-refl}
+use lib.Dec.{T, eqb}
+use lib.Ieee.Fits.{and-l, and-r}
 use Rattle.refusals.specs.declared.Refusal.{Refusal}
 use Rattle.refusals.specs.declared.Permit.{Permit}
 use Rattle.refusals.specs.declared.Permit.the-variants.{Granted, Denied}
 use Rattle.refusals.specs.Code.{codeOf, OneOf}
 use Rattle.refusals.specs.Order.{firstOf, testedOf}
+use Rattle.refusals.proofs.Apart.{granted≢denied, other-code}
 use Rattle.refusals.proofs.Needed.{test-passed, rest-granted, also, first-of-both}
 
 -- ---- one after the other
@@ -63,30 +64,15 @@ abbrev pub noneIs : Refusal → List (Bool × Refusal) → Bool
 noneIs e [] = true
 noneIs e (test ∷ tests) = not (eqb (codeOf (test .1)) (codeOf e)) && noneIs e tests
 
-first-half : (a b : Bool) → T (a && b) → T a
-first-half true b t = tt
-
-second-half : (a b : Bool) → T (a && b) → T b
-second-half true b t = t
-
-not-itself : (n : ℕ) → T (not (eqb n n)) → ⊥
-not-itself n t = go (eqb n n) (eqb-refl n) t
-  where
-    go : (b : Bool) → T b → T (not b) → ⊥
-    go true t u = u
-    go false t u = t
-
 pub never-denied : (e : Refusal) (tests : List (Bool × Refusal)) → T (noneIs e tests) → firstOf tests ≡ Denied e → ⊥
-never-denied e [] ok d = let z : _≡_ {A = ℕ} 0 1 = cc in omega arith
+never-denied e [] ok d = granted≢denied d
 never-denied e (test ∷ tests) ok d =
     let other = not (eqb (codeOf (test .1)) (codeOf e)) in
-    go (test .0) (first-half other (noneIs e tests) ok) (never-denied e tests (second-half other (noneIs e tests) ok)) d
+    go (test .0) (and-l other (noneIs e tests) ok) (never-denied e tests (and-r other (noneIs e tests) ok)) d
   where
     go : (b : Bool) → T (not (eqb (codeOf (test .1)) (codeOf e))) → (firstOf tests ≡ Denied e → ⊥) → cond b (firstOf tests) (Denied (test .1)) ≡ Denied e → ⊥
     go true other later d = later d
-    go false other later d =
-        let same : test .1 ≡ e = cc in
-        not-itself (codeOf e) (subst (λ (r : Refusal). T (not (eqb (codeOf r) (codeOf e)))) same other)
+    go false other later d = let same : test .1 ≡ e = cc in other-code other same
 
 -- ---- and with one of their codes
 
@@ -107,10 +93,10 @@ codesIn codes [] = true
 codesIn codes (test ∷ tests) = isOneOf (codeOf (test .1)) codes && codesIn codes tests
 
 pub denied-code : (codes : List ℕ) (tests : List (Bool × Refusal)) → T (codesIn codes tests) → (r : Refusal) → firstOf tests ≡ Denied r → OneOf (codeOf r) codes
-denied-code codes [] all r d = let z : _≡_ {A = ℕ} 0 1 = cc in absurd (omega arith)
+denied-code codes [] all r d = absurd (granted≢denied d)
 denied-code codes (test ∷ tests) all r d =
     let here = isOneOf (codeOf (test .1)) codes in
-    go (test .0) (one-of (codeOf (test .1)) codes (first-half here (codesIn codes tests) all)) (denied-code codes tests (second-half here (codesIn codes tests) all) r) d
+    go (test .0) (one-of (codeOf (test .1)) codes (and-l here (codesIn codes tests) all)) (denied-code codes tests (and-r here (codesIn codes tests) all) r) d
   where
     go : (b : Bool) → OneOf (codeOf (test .1)) codes → (firstOf tests ≡ Denied r → OneOf (codeOf r) codes) → cond b (firstOf tests) (Denied (test .1)) ≡ Denied r → OneOf (codeOf r) codes
     go true own later d = later d

@@ -18,6 +18,7 @@ use Rattle.search.specs.InCell.{halved, inCell}
 use Rattle.search.specs.Searches.{stepFromBelow, stepFromAbove, quickStep}
 use Rattle.search.specs.Quick.{above, halvedPlaces, enclosing, quickCell}
 use Rattle.refusals.proofs.Tests.{by}
+use Rattle.refusals.proofs.Apart.{other-code}
 use Rattle.search.proofs.GreatestAndLeast.{Numbers}
 use Rattle.search.proofs.ListHalving.{halving-below}
 use Rattle.search.proofs.Encloses.{quick-cell-encloses}
@@ -37,7 +38,7 @@ unfolding halved
 halving-not-12 p P zero lower upper h num r =
     by (eqb (upper - lower) 1)
     (λ t. found-not-refused lower WorkNotFinite (simp t at r))
-    (λ t. let other : Refused NotNeighbours ≡ Refused WorkNotFinite = simp t at r in let z : _≡_ {A = ℕ} 0 1 = cc in omega arith)
+    (λ t. other-code tt (same-refusal NotNeighbours WorkNotFinite (simp t at r)))
 halving-not-12 p P (suc n) lower upper h num r =
     let m = (lower + upper) / 2 in
     let number = num m (omega arith) in
@@ -46,13 +47,18 @@ halving-not-12 p P (suc n) lower upper h num r =
     (λ s. halving-not-12 p P n lower m (omega arith) (λ i k. num i (omega arith)) (simp (number, s) at r))
 
 module _ (p : ℕ → Float) (P : Float) (c : ℕ) (num : Numbers p (endStep c)) where
-  ends-numbers : Numbers (atEnds p) c
+  pub ends-numbers : Numbers (atEnds p) c
   ends-numbers i h = num (endStep i) (omega arith)
 
   cell-found : (j : ℕ) → j < c → HasStep (inCell p P (At j))
   cell-found j h = found-of (inCell p P (At j)) (λ e r.
       halving-not-12 p P 23 (endStep j) (endStep (j + 1)) (omega arith) (λ i k. num i (omega arith))
       (unfold inCell in r ∙ ap Refused (cell-refuses p P j e r)))
+
+  -- so it refuses as the search for the cell does
+  pub cell-of : (x : Located) (e : Refusal) → ((j : ℕ) → x ≡ At j → j < c) → inCell p P x ≡ Refused e → x ≡ Refused e
+  cell-of (At j) e inside r = let (k, f) = cell-found j (inside j refl) in absurd (found-not-refused k e (sym f ∙ r))
+  cell-of (Refused d) e inside r = unfold inCell in r
 
   -- from a found cell to its step
   step-found : (x : Located) → ((j : ℕ) × (j < c) × (x ≡ At j)) → HasStep (inCell p P x)
@@ -117,15 +123,12 @@ module _ (p : ℕ → Float) (P : Float) where
     above-refuses-exactly = ((λ r. above-refuses NoCell r .1), (λ top. simp (num (endStep c) (omega arith), top)))
 
 -- ---- the quick search, whatever its list holds, does not meet 12
-not-12 : (e : Refusal) → e ≡ NoCell → e ≡ WorkNotFinite → ⊥
-not-12 e p q = let z : _≡_ {A = ℕ} 0 1 = cc in omega arith
-
 enclosing-not-12 : (q : ℕ → Float) (P : Float) (a : ℕ) → isNan (q a) ≡ false → isNan (q (a + 1)) ≡ false → enclosing q P a ≡ Refused WorkNotFinite → ⊥
 unfolding enclosing
 enclosing-not-12 q P a low high r =
     by (le (q a) P && lt P (q (a + 1)))
     (λ w. found-not-refused a WorkNotFinite (simp (low, high, w) at r))
-    (λ w. let other : Refused NotEnclosed ≡ Refused WorkNotFinite = simp (low, high, w) at r in let z : _≡_ {A = ℕ} 0 1 = cc in omega arith)
+    (λ w. other-code tt (same-refusal NotEnclosed WorkNotFinite (simp (low, high, w) at r)))
 
 module _ (f p : ℕ → Float) (P : Float) (c : ℕ) (some : 1 ≤ c) (num : Numbers p (endStep c)) where
   quick-cell-not-12 : quickCell f (atEnds p) P c ≡ Refused WorkNotFinite → ⊥
@@ -135,11 +138,8 @@ module _ (f p : ℕ → Float) (P : Float) (c : ℕ) (some : 1 ≤ c) (num : Num
       let under : a < c = halving-below (above P f) c 0 c some in
       by (lt P (f c))
       (λ w. enclosing-not-12 (atEnds p) P a (ends-numbers p P c num a (omega arith)) (ends-numbers p P c num (a + 1) (omega arith)) (simp w at r))
-      (λ w. not-12 NoCell refl (same-refusal NoCell WorkNotFinite (simp w at r)))
+      (λ w. other-code tt (same-refusal NoCell WorkNotFinite (simp w at r)))
 
   pub quick-not-12 : quickStep f p P c ≡ Refused WorkNotFinite → ⊥
-  quick-not-12 r = go (quickCell f (atEnds p) P c) quick-cell-not-12 (λ j e. quick-cell-encloses (atEnds p) P c f some j e .below-top) r
-    where
-      go : (x : Located) → (x ≡ Refused WorkNotFinite → ⊥) → ((j : ℕ) → x ≡ At j → j < c) → inCell p P x ≡ Refused WorkNotFinite → ⊥
-      go (At j) n under r = let (k, e) = cell-found p P c num j (under j refl) in found-not-refused k WorkNotFinite (sym e ∙ r)
-      go (Refused d) n under r = n (unfold inCell in r)
+  quick-not-12 r =
+      quick-cell-not-12 (cell-of p P c num (quickCell f (atEnds p) P c) WorkNotFinite (λ j e. quick-cell-encloses (atEnds p) P c f some j e .below-top) r)

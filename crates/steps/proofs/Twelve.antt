@@ -2,7 +2,6 @@
 use mathlib.Core.Path.{_≡_, refl}
 use mathlib.Core.Bool.{not}
 use Prim.Native.Nat.{ℕ}
-use native.Mathlib.Omega.{arith}
 use lib.Ieee.{Float, nan, inf, fin, isNan}
 use lib.Ieee.Scale.{finite}
 use Rattle.arithmetic.specs.Checked.{squash}
@@ -15,7 +14,7 @@ use Rattle.steps.specs.Steps.{pressuresOf}
 squashed-number : (x : Float) → squash x ≡ x → isNan x ≡ not (finite x)
 unfolding isNan
 squashed-number nan e = refl
-squashed-number (inf s) e = let z : _≡_ {A = ℕ} 0 1 = cc in absurd (omega arith)
+squashed-number (inf s) e = cc
 squashed-number (fin s m e) h = refl
 
 pub gives-twelve-is-not-finite : (t : Float) (k : ℕ) → isNan (pressuresOf t k) ≡ not (finite (pressuresOf t k))

@@ -1,9 +1,7 @@
 -- `ln` meets its contract: its two tests are those of `within`, and in range the parts are those of the definition. Assumes
 -- nothing.
 use mathlib.Core.Path.{_≡_, sym, _∙_}
-use mathlib.Core.Bool.{true, not}
-use Prim.Native.Nat.{ℕ}
-use native.Mathlib.Omega.{arith}
+use mathlib.Core.Bool.{true, not, true≢false}
 use borrow.Author.Needs.{needs}
 use lib.Dec.{T}
 use lib.Ieee.{Float, nan, inf, fin, isNan}
@@ -21,7 +19,7 @@ use Rattle.elementary.proofs.logs.ln.Lts as lts
 
 finite-no-nan : (x : Float) → finite x ≡ true → T (not (isNan x))
 unfolding isNan
-finite-no-nan nan p = let z : _≡_ {A = ℕ} 0 1 = cc in absurd (omega arith)
+finite-no-nan nan p = absurd (true≢false (sym p))
 finite-no-nan (inf s) p = tt
 finite-no-nan (fin s m e) p = tt
 

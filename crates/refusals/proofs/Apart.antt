@@ -1,0 +1,19 @@
+-- What is made in two ways is not the same: each law maps the one to `true` and the other to `false`, or the two to their numbers.
+use mathlib.Core.Path.{_≡_, subst}
+use mathlib.Core.Bool.{not, true≢false}
+use lib.Dec.{T, T-not, eqb, eqb-refl}
+use lib.Ieee.{Float}
+use Rattle.refusals.specs.declared.Refusal.{Refusal}
+use Rattle.refusals.specs.declared.Permit.the-variants.{Granted, Denied}
+use Rattle.refusals.specs.declared.Answer.the-variants.{Number, Refused}
+use Rattle.refusals.specs.Code.{codeOf}
+
+pub granted≢denied : {r : Refusal} → Granted ≡ Denied r → ⊥
+granted≢denied e = true≢false (cc)
+
+pub number≢refused : {x : Float} {r : Refusal} → Number x ≡ Refused r → ⊥
+number≢refused e = true≢false (cc)
+
+-- refusals that have two numbers: `other-code tt` of two that are written out
+pub other-code : {d e : Refusal} → T (not (eqb (codeOf d) (codeOf e))) → d ≡ e → ⊥
+other-code {d} {e} other same = T-not (eqb (codeOf e) (codeOf e)) (subst (λ (r : Refusal). T (not (eqb (codeOf r) (codeOf e)))) same other) (eqb-refl (codeOf e))
