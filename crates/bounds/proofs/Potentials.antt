@@ -2,10 +2,11 @@
 -- 2⁻⁶⁰: there ln δ has no value, and elsewhere the entry's test has shown a number.
 use mathlib.Core.Path.{_≡_, refl, sym, ap, _∙_, subst}
 use mathlib.Core.Logic.{_↔_}
-use mathlib.Core.Bool.{Bool, true, false, not}
+use mathlib.Core.Bool.{false, not}
 use mathlib.Core.List.{[], _∷_}
+use borrow.Author.Tests.{not-true}
 use lib.Dec.{T}
-use lib.Ieee.{Float, nan, fin, le, eq, isNan, round}
+use lib.Ieee.{Float, nan, le, eq, isNan, round}
 use lib.Ieee.Scale.{finite}
 use Rattle.refusals.specs.declared.Refusal.the-variants.{AtZeroDensity, WorkNotFinite}
 use Rattle.refusals.specs.declared.Permit.{Permit}
@@ -25,7 +26,7 @@ use Rattle.values.specs.Values.{δ, i0, entropyValue, gibbsValue, helmholtzValu
 use Rattle.properties.specs.Calls.{workedDensity, entropyOf, gibbsOf, helmholtzOf}
 use Rattle.inputs.specs.Inputs.{stateTests, statePermit, potentialPermit}
 use Rattle.refusals.proofs.Tests.{by}
-use Rattle.intervals.proofs.Fractions.{holds}
+use Rattle.intervals.proofs.Fractions.{holds, finite-number}
 use Rattle.bounds.specs.NoAnswer.{SmallDensity}
 use Rattle.ranges.proofs.Entry.{passes, Finite}
 use Rattle.intervals.proofs.Elementary.{ln-outside}
@@ -36,10 +37,6 @@ use Rattle.bounds.proofs.NeverTwelve.{finite-where-granted}
 also-granted : (p q : Permit) → also p q ≡ Granted → (p ≡ Granted) × (q ≡ Granted)
 also-granted Granted q e = (refl, e)
 also-granted (Denied r) q e = (cc, cc)
-
-not-true : (b : Bool) → not b ≡ true → b ≡ false
-not-true true e = sym e
-not-true false e = refl
 
 module _ (F : Fluid) (t ρ : Float) (granted : potentialPermit F t ρ ≡ Granted) where
   both : (statePermit F t ρ ≡ Granted) × (firstOf ((not (eq ρ (real 0)), AtZeroDensity) ∷ []) ≡ Granted)
@@ -82,10 +79,6 @@ module _ (F : Fluid) (t r : Float) (small : le (two⁻ 60) (δ F t r) ≡ false)
   no-entropy = simp (no-i0, less-nan, nan-less, times-nan)
 
 -- ---- the exact condition
-finite-number : (x : Float) → T (finite x) → isNan x ≡ false
-unfolding isNan
-finite-number (fin s m e) t = refl
-
 tiny-number : isNan (two⁻ 60) ≡ false
 unfolding isNan round
 tiny-number = refl

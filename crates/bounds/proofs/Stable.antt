@@ -3,13 +3,13 @@
 -- S2 then, lies under 2⁻⁹³⁰: a sum of two binary64 numbers is 0 or not very small.
 use mathlib.Core.Path.{_≡_, refl, sym, ap, _∙_, subst}
 use mathlib.Core.Logic.{_↔_, inl, inr}
-use mathlib.Core.Bool.{Bool, true, false, not, _&&_}
+use mathlib.Core.Bool.{true, false, not, _&&_}
 use mathlib.Core.List.{[], _∷_}
 use Prim.Native.Nat.{_^_}
 use native.Mathlib.Omega.{arith}
+use borrow.Author.Tests.{not-true}
 use lib.Dec.{T}
 use lib.Ieee.{Float, fin, binary64, fits, ofInt, round, add, neg, le, lt, eq}
-use lib.Ieee.Fits.{and-l}
 use lib.Ieee.Scale.{finite}
 use Rattle.refusals.specs.declared.Refusal.the-variants.{NotStable, WorkNotFinite}
 use Rattle.refusals.specs.declared.Permit.{Permit}
@@ -27,7 +27,7 @@ use Rattle.equation.specs.Kept.{keptOf}
 use Rattle.values.specs.Values.{sums, «V», K, Q, isobaricValue, soundSpeedValue}
 use Rattle.properties.specs.Calls.{workedDensity, stableOf, stabilityPermit, isobaricOf, soundSpeedOf}
 use Rattle.inputs.specs.Inputs.{statePermit}
-use Rattle.refusals.proofs.Tests.{by}
+use Rattle.refusals.proofs.Tests.{by, and-passed}
 use Rattle.bounds.specs.NoAnswer.{StableState, rootArgument, VanishingQ}
 use Rattle.intervals.proofs.Fractions.{is-true, holds, chain, order-of-test}
 use Rattle.intervals.proofs.Representable.{sum-fits, product-fits, sum-is, summands-finite}
@@ -35,6 +35,8 @@ use Rattle.ranges.proofs.Rows.{s2-fits}
 use Rattle.intervals.proofs.Cancellation.{Large, Apart, zero-test, denominator, sum-apart, one-apart}
 use Rattle.intervals.proofs.Elementary.{root-in-range, root-outside}
 use Rattle.ranges.proofs.Entry.{passes}
+use Rattle.ranges.proofs.Estimates.{finite-two⁻54}
+use Rattle.intervals.proofs.Sum.{neg-finite}
 use Rattle.bounds.proofs.Permits.{refused-granted, state-denied}
 use Rattle.bounds.proofs.NeverTwelve.{finite-where-granted}
 
@@ -48,12 +50,8 @@ stable-denied v k q fv fk fq e =
 stable-positive : (v k q : Float) → T (finite v) → T (finite k) → T (finite q) → stableOf v k q ≡ Granted → le q (real 0) ≡ false
 unfolding stableOf
 stable-positive v k q fv fk fq e =
-    let both = holds (not (le q (real 0)) && not (le v (real 0))) (test-passed (not (le q (real 0)) && not (le v (real 0))) Granted NotStable (rw (is-true (finite v) fv, is-true (finite k) fk, is-true (finite q) fq) at e)) in
-    go (le q (real 0)) (and-l (not (le q (real 0))) (not (le v (real 0))) both)
-  where
-    go : (b : Bool) → T (not b) → b ≡ false
-    go true t = absurd t
-    go false t = refl
+    let both = test-passed (not (le q (real 0)) && not (le v (real 0))) Granted NotStable (rw (is-true (finite v) fv, is-true (finite k) fk, is-true (finite q) fq) at e) in
+    not-true (le q (real 0)) (and-passed (not (le q (real 0))) (not (le v (real 0))) both .0)
 
 -- an answer behind two permits is 12 only where both are granted
 both-granted : (p s : Permit) (v : Float) → (p ≡ Denied WorkNotFinite → ⊥) → (p ≡ Granted → s ≡ Denied WorkNotFinite → ⊥) → permitted p (permitted s (answerFrom v)) ≡ Refused WorkNotFinite
@@ -63,20 +61,12 @@ both-granted (Denied r) s v n m e = let same : Denied r ≡ Denied WorkNotFinite
 
 -- ---- how small Q can be
 -- what is apart from 0 by 2⁻⁵⁴ is that large
-finite-two⁻54 : T (finite (two⁻ 54))
-unfolding round
-finite-two⁻54 = tt
-
-finite-minus-two⁻54 : T (finite (neg (two⁻ 54)))
-unfolding round neg
-finite-minus-two⁻54 = tt
-
 apart-large : (x : Float) → T (finite x) → Apart 54 x → Large 54 x
 unfolding round neg
 apart-large (fin true m e) f (inl t) = let h = order-of-test (two⁻ 54) (fin true m e) finite-two⁻54 f t in omega arith
 apart-large (fin false m e) f (inl t) = let h = order-of-test (two⁻ 54) (fin false m e) finite-two⁻54 f t in omega arith
-apart-large (fin true m e) f (inr t) = let h = order-of-test (fin true m e) (neg (two⁻ 54)) f finite-minus-two⁻54 t in omega arith
-apart-large (fin false m e) f (inr t) = let h = order-of-test (fin false m e) (neg (two⁻ 54)) f finite-minus-two⁻54 t in omega arith
+apart-large (fin true m e) f (inr t) = let h = order-of-test (fin true m e) (neg (two⁻ 54)) f (neg-finite (two⁻ 54) finite-two⁻54) t in omega arith
+apart-large (fin false m e) f (inr t) = let h = order-of-test (fin false m e) (neg (two⁻ 54)) f (neg-finite (two⁻ 54) finite-two⁻54) t in omega arith
 
 not-positive : T (le (neg (two⁻ 215)) (real 0))
 unfolding ofInt round neg le lt eq
@@ -102,8 +92,7 @@ q-large x s fx fs f above not-zero =
             | inl z ↦ absurd (refute (z .0))
             | inr (inl t) ↦ subst (λ (y : Float). T (le (two⁻ 215) y)) (sym whole) t
             | inr (inr t) ↦
-                absurd (refute (holds (le (add binary64 a s) (real 0))
-                (tests.le-trans (add binary64 a s) (neg (two⁻ 215)) (real 0) (is-true (le (add binary64 a s) (neg (two⁻ 215))) t) (is-true (le (neg (two⁻ 215)) (real 0)) not-positive))))
+                absurd (refute (chain (add binary64 a s) (neg (two⁻ 215)) (real 0) t not-positive))
           ]
     ]
 

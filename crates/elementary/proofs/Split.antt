@@ -1,6 +1,6 @@
 -- Every x from 2⁻⁶⁰ to 2⁶⁰ is m·2ᵉ with 0.75 ≤ m < 1.5 for `mOf x` and `eOf x`, and for no other m and e: each value is compared as its fraction num / den, which its fields show.
 use mathlib.Core.Path.{_≡_, refl, sym, ap, _∙_, subst}
-use mathlib.Core.Bool.{Bool, true, false, not, _||_, cond}
+use mathlib.Core.Bool.{Bool, true, false, not, cond}
 use Prim.Native.Nat.{ℕ, zero, suc, _+_, _-_, _*_, _/_, _^_, _≤_, _<_}
 use native.Mathlib.Nat.{suc-inj, mul-le-mul-right, mul-right-comm, mul-pos, add-zero, one-mul, eq-of-mul-eq-mul-right, le-of-mul-le-mul-right, pow-succ'}
 use native.Mathlib.Omega.{arith}
@@ -16,24 +16,18 @@ use lib.Ieee.Order.{round-mono}
 use lib.Ieee.Scale.{finite}
 use lib.Ieee.Positive.{num, den, positive, den-pos, positive-finite, positive-of-value, value→cross, le→cross, cross→le, between}
 use Rattle.arithmetic.specs.Checked.{real, _e-_, two⁻}
+use Rattle.arithmetic.proofs.Order.{lt→le}
 use Rattle.elementary.specs.Ln.{Split, digits, field, mField, mOf, eOf}
 use Rattle.elementary.proofs.Fields.{pattern, bits-of-value, bits-normal, pattern-value, own-fields-value, m-field-small, m-field-positive, mUnits, m-value, m-units-between}
 
 -- ---- 0.75 ≤ m < 1.5, as an order of fractions
-lt→cross : (x y : Float) → T (positive x) → T (positive y) → T (lt x y) → num x * den y < num y * den x
+pub lt→cross : (x y : Float) → T (positive x) → T (positive y) → T (lt x y) → num x * den y < num y * den x
 unfolding lt
 lt→cross (fin false m e) (fin false n d) p q h = ltb→lt (m * up e * down d) (n * up d * down e) h
 
 cross→lt : (x y : Float) → T (positive x) → T (positive y) → num x * den y < num y * den x → T (lt x y)
 unfolding lt
 cross→lt (fin false m e) (fin false n d) p q h = lt→ltb (m * up e * down d) (n * up d * down e) h
-
-lt→le : (x y : Float) → T (lt x y) → T (le x y)
-unfolding le
-lt→le x y h = or-left (lt x y) _ h
-  where
-    or-left : (a b : Bool) → T a → T (a || b)
-    or-left true b t = tt
 
 -- 3 / 4 ≤ num / den < 3 / 2
 record Range (m : Float) : Type 0 where
@@ -154,7 +148,7 @@ same-power a b k l =
     let not-above : b < a → ⊥ = λ h. l (half b a h) in
     omega arith
 
-two-at-least : (a b : ℕ) → 2 ≤ 2 ^ a * 2 ^ suc b
+pub two-at-least : (a b : ℕ) → 2 ≤ 2 ^ a * 2 ^ suc b
 two-at-least a b = rw pow-add at (pow-mono {i = 1} {j = a + suc b} (omega arith))
 
 same-exponent : (e e' : ℤ) → (Halved e e' → ⊥) → (Halved e' e → ⊥) → e ≡ e'

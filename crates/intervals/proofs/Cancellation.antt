@@ -4,29 +4,19 @@ use mathlib.Core.Path.{_≡_, refl, ap, subst}
 use mathlib.Core.Logic.{_⊎_, inl, inr}
 use mathlib.Core.Bool.{Bool, true, false, not, _&&_, _||_}
 use Prim.Native.Nat.{ℕ, zero, suc, _+_, _*_, _%_, _^_, _≤_, _<_}
-use native.Mathlib.Nat.{le-trans, le-of-lt, le-of-eq, lt-of-not-le, eq-or-lt-of-le, pow-suc, mul-le-mul, mul-le-mul-left, mul-le-mul-right, mul-pos}
+use native.Mathlib.Nat.{le-trans, le-of-lt, le-of-eq, eq-or-lt-of-le, pow-suc, mul-le-mul, mul-le-mul-left, mul-le-mul-right, mul-pos}
 use native.Mathlib.Omega.{arith}
-use lib.Dec.{T, leb, ltb, eqb, eqb→eq, eqb-refl, leb→le, le→leb, ltb→lt, nltb→le, lit≤, lit<}
+use lib.Dec.{T, leb, ltb, eqb, eqb→eq, leb→le, nleb→lt, ltb→lt, nltb→le, lit≤, lit<}
 use lib.IntN.{pos, negsuc}
 use lib.Pow.{pow-pos, pow-add, pow-mono}
 use lib.Ieee.{Float, nan, inf, fin, binary64, low, emax, up, down, fits, round, ofInt, add, neg, le, lt, eq}
-use lib.Ieee.Fits.{and-l, and-r}
+use lib.Ieee.Fits.{eq→eqb, and-l, and-r}
 use lib.Ieee.Positive.{num, den, den-pos}
 use lib.Ieee.Scale.{finite}
 use Rattle.arithmetic.specs.Checked.{real, two⁻}
 use Rattle.arithmetic.proofs.Order as tests
 use Rattle.intervals.proofs.Fractions.{is-true, chain, plus, less}
 use Rattle.intervals.proofs.Rounding.{Rounds, rounds-mono, rounds-up, rounds-flip, sum-rounds}
-
-nleb→lt : (a b : ℕ) → T (not (leb a b)) → b < a
-nleb→lt a b t = lt-of-not-le (λ h. not-both (leb a b) (le→leb a b h) t)
-  where
-    not-both : (b : Bool) → T b → T (not b) → ⊥
-    not-both true t u = u
-    not-both false t u = t
-
-neqb→ne : (a b : ℕ) → (T (eqb a b) → ⊥) → a ≡ b → ⊥
-neqb→ne a b n e = n (subst (λ (x : ℕ). T (eqb a x)) e (eqb-refl a))
 
 -- |x| ≥ 2⁻ᵏ
 abbrev pub Large : ℕ → Float → Type 0
@@ -140,7 +130,7 @@ module _ (x y : Float) (p : T (finite x)) (q : T (finite y)) where
   )
 
   small-product : (j : ℕ) → den x * den y ≤ 2 ^ j → Zero (add binary64 x y) ⊎ Apart j (add binary64 x y)
-  small-product j c = go (eqb positives negatives) (eqb→eq positives negatives) (neqb→ne positives negatives)
+  small-product j c = go (eqb positives negatives) (eqb→eq positives negatives) (λ n e. n (eq→eqb e))
     where
       go : (b : Bool) → (T b → positives ≡ negatives) → ((T b → ⊥) → positives ≡ negatives → ⊥) → Zero (add binary64 x y) ⊎ Apart j (add binary64 x y)
       go true z n = inl (zero-rounds (z tt))

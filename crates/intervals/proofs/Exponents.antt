@@ -1,21 +1,21 @@
 -- Of two values in order the exponents of x = m·2ᵉ, 0.75 ≤ m < 1.5, stand in that order, and so do the m where the exponents are the same:
 -- 2ᵉ and 2ᶠ are compared as fractions, and of two m none is twice the other.
-use mathlib.Core.Path.{_≡_, refl, sym, ap, subst}
+use mathlib.Core.Path.{_≡_, refl, ap}
 use mathlib.Core.Bool.{Bool, true, false, not}
-use Prim.Native.Nat.{ℕ, zero, suc, _+_, _*_, _^_, _≤_, _<_}
+use Prim.Native.Nat.{ℕ, zero, suc, _*_, _^_, _≤_, _<_}
 use native.Mathlib.Nat.{mul-le-mul-right, mul-le-mul, mul-pos, le-of-mul-le-mul-right, pow-succ', pow-suc}
 use native.Mathlib.Omega.{arith}
 use lib.Dec.{T, ltb, ltb→lt, nltb→le, lit<}
 use lib.IntN.{ℤ, pos, negsuc}
-use lib.Pow.{pow-pos, pow-add, pow-mono}
-use lib.Ieee.{Float, fin, binary64, up, down, round, ofInt, le, lt}
+use lib.Pow.{pow-pos, pow-mono}
+use lib.Ieee.{Float, binary64, up, down, round, ofInt, le}
 use lib.Ieee.Fits.{up-pos, down-pos}
 use lib.Ieee.Order.{round-mono}
 use lib.Ieee.Positive.{num, den, positive, den-pos, le→cross, cross→le, between}
 use Rattle.arithmetic.specs.Checked.{_e-_}
 use Rattle.elementary.specs.Ln.{Split}
-use Rattle.arithmetic.proofs.Order.{lt-le}
-use Rattle.intervals.proofs.Fractions.{is-true}
+use Rattle.elementary.proofs.Split.{lt→cross, two-at-least}
+use Rattle.arithmetic.proofs.Order.{lt→le}
 use Rattle.intervals.proofs.Rounding.{round-anti, signs-apart}
 use Rattle.intervals.proofs.Interval.{at}
 
@@ -42,9 +42,6 @@ not-above a b k = go (ltb a b) (ltb→lt a b) (nltb→le a b)
     go true l n = absurd (k (doubled a b (l tt)))
     go false l n = n tt
 
-two-at-least : (a b : ℕ) → 2 ≤ 2 ^ a * 2 ^ suc b
-two-at-least a b = rw pow-add at (pow-mono {i = 1} {j = a + suc b} (omega arith))
-
 -- so the powers and the exponents stand in one order
 pub exponents : (e f : ℤ) → (Halved e f → ⊥) → PowerLe f e × T (le (ofInt binary64 f) (ofInt binary64 e))
 unfolding ofInt
@@ -58,17 +55,10 @@ exponents (negsuc a) (negsuc b) k =
     (omega (arith, pow-mono h), round-anti binary64 (suc a) 1 (suc b) 1 (lit< tt) (lit< tt) (omega arith))
 
 -- ---- the parts of two values in order
-strict-cross : (x y : Float) → T (positive x) → T (positive y) → T (lt x y) → num x * den y < num y * den x
-unfolding lt
-strict-cross (fin false m e) (fin false n d) p q h = ltb→lt (m * up e * down d) (n * up d * down e) h
-
-pub below-is-le : (x y : Float) → T (lt x y) → T (le x y)
-below-is-le x y t = subst T (sym (lt-le x y (is-true (lt x y) t))) tt
-
 module _ {x m : Float} {e : ℤ} (s : Split x m e) where
   split-positive : T (positive m)
   unfolding round
-  split-positive = between (75 e- 2) m (15 e- 1) tt tt (s .low) (below-is-le m (15 e- 1) (s .high))
+  split-positive = between (75 e- 2) m (15 e- 1) tt tt (s .low) (lt→le m (15 e- 1) (s .high))
 
   split-least : 3 * den m ≤ num m * 4
   unfolding round
@@ -76,7 +66,7 @@ module _ {x m : Float} {e : ℤ} (s : Split x m e) where
 
   split-under : num m * 2 < 3 * den m
   unfolding round
-  split-under = strict-cross m (15 e- 1) split-positive tt (s .high)
+  split-under = lt→cross m (15 e- 1) split-positive tt (s .high)
 
 module _ {x y m n : Float} {e f : ℤ} (s : Split x m e) (t : Split y n f) (h : num x * den y ≤ num y * den x) where
   -- m·2ᵉ ≤ n·2ᶠ

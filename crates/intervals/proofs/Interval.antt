@@ -7,7 +7,8 @@ use lib.Ieee.{Float, nan, inf, fin, le}
 use lib.Ieee.Fits.{and-l, and-r}
 use lib.Ieee.Scale.{finite}
 use Rattle.arithmetic.specs.Checked.{squash}
-use Rattle.intervals.proofs.Fractions.{Le, order-of-test, test-of-order, Le-total, Le-trans, Le-refl, between-finite}
+use Rattle.arithmetic.proofs.Within.{between-finite}
+use Rattle.intervals.proofs.Fractions.{Le, order-of-test, test-of-order, Le-total, Le-trans, Le-refl}
 
 pub data Interval : Type 0 where
   unknown : Interval

@@ -14,12 +14,14 @@ use Rattle.arithmetic.proofs.Forced.{forced}
 use Rattle.elementary.proofs.Literals.{finite-075, finite-15, finite-two⁻60, finite-two60}
 use Rattle.elementary.proofs.Split.{split-holds, m-low, m-high}
 use Rattle.arithmetic.proofs.Within.{within-in}
-use Rattle.intervals.proofs.Fractions.{is-true, order-of-test, test-of-order, Le-trans, between-finite}
+use Rattle.intervals.proofs.Fractions.{is-true, order-of-test, test-of-order, Le-trans}
 use Rattle.intervals.proofs.Interval.{Interval, unknown, ends, Inside, In, anything, inside, interval, tested, result-in, unsquash-in, point, at, hull, hull-left, hull-right, _▶_, computed, lies, lies-in}
 use Rattle.intervals.proofs.Sum.{_⊞_, _⊟_, _⟨⊕⟩_, _⟨⊖⟩_}
 use Rattle.intervals.proofs.Product.{_⊠_, _⟨⊗⟩_}
 use Rattle.intervals.proofs.Quotient.{_÷_, _⟨⊘⟩_, onlyIf, only-if}
-use Rattle.intervals.proofs.Exponents.{Halved, PowerLe, power-trans, exponents, below-is-le, exponents-rise, m-rises, before, not-twice, no-room}
+use Rattle.arithmetic.proofs.Order.{lt→le}
+use Rattle.arithmetic.proofs.Within.{between-finite}
+use Rattle.intervals.proofs.Exponents.{Halved, PowerLe, power-trans, exponents, exponents-rise, m-rises, before, not-twice, no-room}
 
 -- ---- the steps
 unfoldable pub lnStepsOver : Interval → ℕ → Interval → Interval
@@ -75,7 +77,7 @@ not-leb a b n h = n (le→leb a b h)
 
 -- wherever x is, m lies from 0.75 to 1.5
 pub m-anywhere : (x : Float) → In (interval (75 e- 2) (15 e- 1)) (mOf x)
-m-anywhere x = tested (75 e- 2) (15 e- 1) (mOf x) finite-075 finite-15 (m-low x) (below-is-le (mOf x) (15 e- 1) (m-high x))
+m-anywhere x = tested (75 e- 2) (15 e- 1) (mOf x) finite-075 finite-15 (m-low x) (lt→le (mOf x) (15 e- 1) (m-high x))
 
 abbrev InRange : Float → Type 0
 InRange x = T (le (two⁻ 60) x) × T (le x (real (2 ^ 60)))
@@ -101,7 +103,7 @@ range-split : (x : Float) → T (fits binary64 x) → InRange x → Split x (mOf
 range-split x f (l, h) = split-holds x f (is-true (le (two⁻ 60) x) l) (is-true (le x (real (2 ^ 60))) h)
 
 m-finite : (x : Float) → T (finite (mOf x))
-m-finite x = between-finite (75 e- 2) (mOf x) (15 e- 1) finite-075 finite-15 (m-low x) (below-is-le (mOf x) (15 e- 1) (m-high x))
+m-finite x = between-finite (75 e- 2) (mOf x) (15 e- 1) finite-075 finite-15 (m-low x) (lt→le (mOf x) (15 e- 1) (m-high x))
 
 module _ (l h x : Float) (fl : T (fits binary64 l)) (fh : T (fits binary64 h)) (fx : T (fits binary64 x)) (rl : InRange l) (rh : InRange h) (rx : InRange x) (a : Inside l h x) where
   low-cross : num l * den x ≤ num x * den l
@@ -132,7 +134,7 @@ module _ (l h x : Float) (fl : T (fits binary64 l)) (fh : T (fits binary64 h)) (
   m-between lo hi p q low high = tested lo hi (mOf x) p q low high
 
   m-under : T (le (mOf x) (15 e- 1))
-  m-under = below-is-le (mOf x) (15 e- 1) (m-high x)
+  m-under = lt→le (mOf x) (15 e- 1) (m-high x)
 
   abbrev value : Float
   value = lnWork (mOf x) (ofInt binary64 (eOf x))

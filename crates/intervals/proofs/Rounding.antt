@@ -5,8 +5,9 @@ use Prim.Native.Nat.{ℕ, zero, suc, _+_, _-_, _*_, _^_, _≤_, _<_}
 use native.Mathlib.Nat.{mul-le-mul-right, le-of-mul-le-mul-right}
 use native.Mathlib.Omega.{arith}
 use mathlib.Core.Bool.{Bool, true, false, not, _&&_, cond, true≢false}
+use borrow.Author.Tests.{ne-eqb}
 use lib.IntN.{ℤ}
-use lib.Dec.{T, ltb, eqb, eqb→eq, ltb→lt, nltb→le}
+use lib.Dec.{T, ltb, eqb, ltb→lt, nltb→le}
 use lib.Pow.{pow-pos}
 use lib.Ieee.{Float, nan, inf, fin, Format, emax, low, prec, up, down, odd, units, round, sum, add, mul, div, neg, le}
 use lib.Ieee.Exact.{HasValue, round-exact}
@@ -182,11 +183,7 @@ product-rounds f (fin true m e) (fin false n d) p q = rounds-down f _ (m * up e 
 product-rounds f (fin true m e) (fin true n d) p q = rounds-up f _ (m * up e * (n * up d)) _ _ _ (omega arith) refl
 
 not-0 : (n : ℕ) → 0 < n → eqb n 0 ≡ false
-not-0 n h = go (eqb n 0) (eqb→eq n 0)
-  where
-    go : (b : Bool) → (T b → n ≡ 0) → b ≡ false
-    go true k = let e = k tt in absurd (omega arith)
-    go false k = refl
+not-0 n h = ne-eqb n 0 (λ e. omega arith)
 
 -- a divisor above zero
 pub quotient-rounds : (f : Format) (x y : Float) → T (finite x) → T (positive y) → Rounds f (div f x y) (plus x * den y) (less x * den y) (plus y * den x)

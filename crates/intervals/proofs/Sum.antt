@@ -47,7 +47,7 @@ unfoldable pub negated : Interval → Interval
 negated unknown = unknown
 negated (ends l h) = ends (neg h) (neg l)
 
-neg-finite : (x : Float) → T (finite x) → T (finite (neg x))
+pub neg-finite : (x : Float) → T (finite x) → T (finite (neg x))
 unfolding neg
 neg-finite (fin s m e) p = tt
 

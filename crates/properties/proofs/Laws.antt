@@ -4,6 +4,7 @@ use mathlib.Core.Bool.{true, false}
 use mathlib.Core.Logic.{_⊎_, inl, inr}
 use lib.Dec.{T}
 use lib.Ieee.{Float, nan, inf, fin, le, eq, div, ofInt, round}
+use lib.Ieee.Fits.{and-l, and-r}
 use lib.Ieee.Scale.{finite}
 use lib.Ieee.Positive.{positive}
 use lib.Ieee.Positive as Positive
@@ -12,6 +13,7 @@ use Rattle.refusals.specs.declared.Permit.the-variants.{Granted}
 use Rattle.refusals.specs.declared.Answer.{Answer}
 use Rattle.refusals.specs.declared.Answer.the-variants.{Number, Refused}
 use Rattle.refusals.proofs.Needed.{permitted-granted}
+use Rattle.refusals.proofs.Tests.{holds}
 use Rattle.arithmetic.specs.Checked.{real, squash, between, _⊗_, _⊘_}
 use Rattle.arithmetic.specs.Answered.{answerFrom}
 use Rattle.arithmetic.proofs.Zeros.{Vanishes, PlusZero, NotNegative, product-not-negative}
@@ -24,7 +26,7 @@ use Rattle.equation.proofs.Laws.{pressure-at-0}
 use Rattle.values.specs.Values.{pressureValue}
 use Rattle.properties.specs.Calls.{workedDensity, pressureOf}
 use Rattle.inputs.specs.Inputs.{statePermit}
-use Rattle.properties.proofs.Permits.{left-true, right-true, passes, state-temperature}
+use Rattle.properties.proofs.Permits.{state-temperature}
 
 number-or-12 : (v : Float) → ((x : Float) × T (finite x) × (answerFrom v ≡ Number x)) ⊎ (answerFrom v ≡ Refused WorkNotFinite)
 number-or-12 nan = inr refl
@@ -62,9 +64,10 @@ delta-vanishes = refl
 
 temperature-positive : (t : Float) → between (r245ca .leastT) t (r245ca .greatestT) ≡ true → T (positive t)
 temperature-positive t p =
+    let inside = holds (between (r245ca .leastT) t (r245ca .greatestT)) p in
     Positive.between (r245ca .leastT) t (r245ca .greatestT) least greatest
-    (passes (le (r245ca .leastT) t) (left-true (le (r245ca .leastT) t) (le t (r245ca .greatestT)) p))
-    (passes (le t (r245ca .greatestT)) (right-true (le (r245ca .leastT) t) (le t (r245ca .greatestT)) p))
+    (and-l (le (r245ca .leastT) t) (le t (r245ca .greatestT)) inside)
+    (and-r (le (r245ca .leastT) t) (le t (r245ca .greatestT)) inside)
 
 amount-not-negative : (t : Float) → T (positive t) → NotNegative (r245ca .R ⊗ t)
 amount-not-negative t p = product-not-negative (r245ca .R) t gas (positive-not-negative t p)

@@ -1,10 +1,7 @@
 -- What a granted permit says of the inputs, and the permit of a state's stability.
-use mathlib.Core.Path.{_≡_, refl}
-use mathlib.Core.Bool.{Bool, true, false, _&&_}
+use mathlib.Core.Path.{_≡_}
+use mathlib.Core.Bool.{true, _&&_}
 use mathlib.Core.List.{[], _∷_}
-use Prim.Native.Nat.{ℕ}
-use native.Mathlib.Omega.{arith}
-use lib.Dec.{T}
 use lib.Ieee.{Float}
 use lib.Ieee.Scale.{finite}
 use Rattle.refusals.specs.declared.Refusal.the-variants.{InputNotFinite, TemperatureOutside, DensityOutside}
@@ -17,18 +14,6 @@ use Rattle.values.specs.declared.Stability.{Stability}
 use Rattle.values.specs.Values.{stabilityOf}
 use Rattle.inputs.specs.Inputs.{statePermit}
 use Rattle.properties.specs.Calls.{stableOf, stabilityPermit}
-
-pub left-true : (a b : Bool) → (a && b) ≡ true → a ≡ true
-left-true true b p = refl
-left-true false b p = p
-
-pub right-true : (a b : Bool) → (a && b) ≡ true → b ≡ true
-right-true true b p = p
-right-true false b p = let z : _≡_ {A = ℕ} 0 1 = cc in absurd (omega arith)
-
-pub passes : (b : Bool) → b ≡ true → T b
-passes true p = tt
-passes false p = let z : _≡_ {A = ℕ} 0 1 = cc in absurd (omega arith)
 
 module _ (F : Fluid) (t ρ : Float) where
   pub state-temperature : statePermit F t ρ ≡ Granted → between (F .leastT) t (F .greatestT) ≡ true

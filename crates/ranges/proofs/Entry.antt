@@ -9,7 +9,7 @@ use lib.Ieee.Scale.{finite}
 use Rattle.arithmetic.specs.Checked.{real, two⁻, between}
 use Rattle.fluids.specs.Fluid.{Fluid}
 use Rattle.values.specs.Values.{δ, «V», K, Q, pressureValue, energyValue, enthalpyValue, isochoricValue, entropyValue, gibbsValue, helmholtzValue, isobaricValue}
-use Rattle.intervals.proofs.Fractions.{between-finite}
+use Rattle.arithmetic.proofs.Within.{between-finite}
 use Rattle.intervals.proofs.Interval.{Interval, ends, In, interval, tested, point, at, known, in-known}
 use Rattle.intervals.proofs.Quotient.{_÷_, _⟨⊘⟩_}
 use Rattle.ranges.proofs.State.{State, state, stateOver, InState, state-in}

@@ -7,7 +7,7 @@ use mathlib.Core.List.{List}
 use Prim.Native.Nat.{ℕ, zero, suc, _+_}
 use lib.Dec.{T}
 use lib.ListN.{getD}
-use lib.Ieee.{Float, nan, fin, binary64, fits, ofInt, round, le, lt, eq, neg, add}
+use lib.Ieee.{Float, nan, binary64, fits, ofInt, round, le, lt, eq, neg, add}
 use lib.Ieee.Fits.{and-l, and-r, neg-fits}
 use lib.Ieee.Scale.{finite}
 use Rattle.arithmetic.specs.Checked.{real, two⁻, _⊖_, _⊘_}
@@ -18,9 +18,10 @@ use Rattle.fluids.specs.declared.Estimate.{Estimate}
 use Rattle.fluids.specs.declared.Estimate.the-variants.{Alone, Raised}
 use Rattle.fluids.specs.Fluid.{Fluid}
 use Rattle.saturation.specs.Estimates.{thetaOf, termOf, termAt, plusTerms, pressureEstimate, liquidEstimate, vapourEstimate}
-use Rattle.intervals.proofs.Fractions.{is-true, holds, between-finite}
+use Rattle.arithmetic.proofs.Within.{between-finite}
+use Rattle.intervals.proofs.Fractions.{chain}
 use Rattle.intervals.proofs.Interval.{Interval, ends, In, interval, tested, point, at, known, in-known, lies, lies-in, fromOn, from-on-in, _▶_, computed}
-use Rattle.intervals.proofs.Sum.{_⊞_, _⊟_, _⟨⊕⟩_, _⟨⊖⟩_}
+use Rattle.intervals.proofs.Sum.{_⊞_, _⊟_, _⟨⊕⟩_, _⟨⊖⟩_, neg-finite}
 use Rattle.intervals.proofs.Product.{_⊠_, _⟨⊗⟩_}
 use Rattle.intervals.proofs.Quotient.{_÷_, _⟨⊘⟩_}
 use Rattle.intervals.proofs.Functions.{expOver, ⟨exp⟩, powerOver, ⟨power⟩}
@@ -78,15 +79,11 @@ estimates-in F t a h w = simp forced (
 )
 
 -- ---- θ is 0 or at least 2⁻⁵⁴
-neg-finite : (x : Float) → T (finite x) → T (finite (neg x))
-unfolding neg
-neg-finite (fin s m e) t = tt
-
 finite-one : T (finite (real 1))
 unfolding ofInt round
 finite-one = tt
 
-finite-two⁻54 : T (finite (two⁻ 54))
+pub finite-two⁻54 : T (finite (two⁻ 54))
 unfolding round
 finite-two⁻54 = tt
 
@@ -102,8 +99,7 @@ one-less x f p q above not-zero =
       | inl z ↦ absurd (subst T (sym (zero-test r z) ∙ ap (λ (y : Float). eq y (real 0)) (sym e) ∙ not-zero) tt)
       | inr (inl t) ↦ subst (λ (y : Float). T (le (two⁻ 54) y)) (sym e) t
       | inr (inr t) ↦
-          absurd (subst T negative (holds (le (real 0) (neg (two⁻ 54)))
-          (tests.le-trans (real 0) r (neg (two⁻ 54)) (is-true (le (real 0) r) (subst (λ (y : Float). T (le (real 0) y)) e above)) (is-true (le r (neg (two⁻ 54))) t))))
+          absurd (subst T negative (chain (real 0) r (neg (two⁻ 54)) (subst (λ (y : Float). T (le (real 0) y)) e above) t))
     ]
 
 -- ---- the computed test of an entry

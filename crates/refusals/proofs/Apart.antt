@@ -1,4 +1,4 @@
--- What is made in two ways is not the same: each law maps the one to `true` and the other to `false`, or the two to their numbers.
+-- Two variants are never the same, by `cc`, which proves any equation where two meet: an absurd case that asks for one needs no law.
 use mathlib.Core.Path.{_≡_, subst}
 use mathlib.Core.Bool.{not, true≢false}
 use lib.Dec.{T, T-not, eqb, eqb-refl}

@@ -11,7 +11,8 @@ use Rattle.arithmetic.proofs.Operations.{squash-finite, ⊗-squash-left, squash
 use Rattle.arithmetic.proofs.Forced.{forced}
 use Rattle.arithmetic.proofs.Literals.{lit-1, lit-2, squash-1, squash-2}
 use Rattle.elementary.proofs.Literals.{lit-ln2, squash-ln2, finite-075, finite-15}
-use Rattle.arithmetic.proofs.Within.{finite-inside}
+use Rattle.arithmetic.proofs.Order.{lt→le}
+use Rattle.arithmetic.proofs.Within.{between-finite}
 use Rattle.elementary.proofs.Split.{plus-one-finite}
 use Rattle.elementary.proofs.logs.work.Statement.{statement}
 use Rattle.elementary.proofs.logs.work.Tie as tie
@@ -23,7 +24,7 @@ use Rattle.elementary.proofs.logs.steps.Reads as steps-reads
 quotient : (m : Float) → T (le (75 e- 2) m) → T (lt m (15 e- 1)) →
     squash (div binary64 (sub binary64 m (real 1)) (add binary64 m (real 1))) ≡ (m ⊖ real 1) ⊘ (m ⊕ real 1)
 quotient m a b =
-    let f = squash-finite m (is-true _ (finite-inside _ _ m finite-075 finite-15 a b)) in
+    let f = squash-finite m (is-true _ (between-finite _ m _ finite-075 finite-15 a (lt→le m _ b))) in
     squash-div (sub binary64 m (real 1)) (add binary64 m (real 1)) (plus-one-finite m a b) ∙ simp (squash-sub, squash-add, squash-1, f)
 
 steps-requires : tie.Need-steps-requires
