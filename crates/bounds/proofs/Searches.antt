@@ -4,7 +4,7 @@
 use mathlib.Core.Path.{_≡_, refl, ap, _∙_}
 use mathlib.Core.Logic.{_↔_}
 use mathlib.Core.List.{List}
-use mathlib.Core.Bool.{Bool, true, false, not}
+use mathlib.Core.Bool.{true, false, not}
 use Prim.Native.Nat.{ℕ, _^_, _≤_}
 use native.Mathlib.Omega.{arith}
 use borrow.Author.Tests.{leb-true}
@@ -17,8 +17,7 @@ use lib.Ieee.Order.{le-of-values}
 use lib.Ieee.Scale.{finite}
 use Rattle.refusals.specs.declared.Refusal.{Refusal}
 use Rattle.refusals.specs.declared.Refusal.the-variants.{NoCell, WorkNotFinite}
-use Rattle.refusals.specs.declared.Permit.{Permit}
-use Rattle.refusals.specs.declared.Permit.the-variants.{Granted, Denied}
+use Rattle.refusals.specs.declared.Permit.the-variants.{Granted}
 use Rattle.arithmetic.specs.Checked.{real, between}
 use Rattle.arithmetic.proofs.Order.{le-of-not-lt, not-le-of-lt, le-lt-trans}
 use Rattle.fluids.specs.R245ca.{r245ca}
@@ -43,16 +42,16 @@ use Rattle.density.specs.Granted.{Question}
 use Rattle.density.specs.State.{stateWordOf, foundStateOf}
 use Rattle.steps.specs.Steps.{stepDensityOf, stepPressureOf}
 use Rattle.steps.specs.Steps.{pressuresOf}
-use Rattle.density.specs.Calls.{plainStepOf, searched, plainOf, entriesBy, quickOf}
+use Rattle.density.specs.Calls.{plainStepOf, plainOf, entriesBy, quickOf}
 use Rattle.search.specs.Searches.{quickStep}
 use Rattle.preparation.specs.Prepare.{prepareOf}
 use Rattle.steps.proofs.StepExact.{step-exact}
 use Rattle.inputs.proofs.Passed.{search-passed, prepare-passed}
 use Rattle.density.proofs.Permitted.{question}
-use Rattle.density.proofs.NeverNine.{state-refuses, searched-refuses}
+use Rattle.density.proofs.NeverNine.{searched-refuses, step-refused}
 use Rattle.steps.proofs.Twelve.{gives-twelve-is-not-finite}
 use Rattle.density.specs.Answers.{Answers}
-use Rattle.density.proofs.Encloses.{plain-from-below-encloses, plain-from-above-encloses}
+use Rattle.density.proofs.Encloses.{answered-at, plain-from-below-encloses, plain-from-above-encloses}
 use Rattle.density.proofs.ExactlyEight.{refuses-exactly}
 use Rattle.preparation.proofs.PreparationFails.{fails-with-twelve, fails-exactly}
 use Rattle.intervals.proofs.Fractions.{holds, is-true}
@@ -125,21 +124,12 @@ state-found : (t : Float) (side : Side) (x : Located) → HasStep x → (density
 unfolding foundStateOf
 state-found t side x (k, e) = (stepDensityOf k, stateWordOf t side, rw e)
 
--- the inputs refuse with none but 2, 3, 5, 6 and 7
-inputs-not-12 : (t P : Float) (c : ℕ) (room : Bool) → searchPermit r245ca t P c room ≡ Denied WorkNotFinite → ⊥
-unfolding searchPermit
-inputs-not-12 t P c room = never-denied WorkNotFinite (searchTests r245ca t P c room) tt
-
-inputs-not-8 : (t P : Float) (c : ℕ) (room : Bool) → searchPermit r245ca t P c room ≡ Denied NoCell → ⊥
-unfolding searchPermit
-inputs-not-8 t P c room = never-denied NoCell (searchTests r245ca t P c room) tt
-
--- so 8 comes from permitted inputs alone
+-- the inputs refuse with none but 2, 3, 5, 6 and 7, so 8 comes from permitted inputs alone
 eight-permitted : (t P : Float) (c : ℕ) (side : Side) → plainOf t P c side ≡ Found.Refused NoCell → searchPermit r245ca t P c true ≡ Granted
-unfolding plainOf
+unfolding plainOf searchPermit
 eight-permitted t P c side r =
     searched-refuses (searchPermit r245ca t P c true) t side (plainStepOf side (pressuresOf t) P c) NoCell r
-    (λ i. absurd (inputs-not-8 t P c true i)) (λ ok x. ok)
+    (λ i. absurd (never-denied NoCell (searchTests r245ca t P c true) tt i)) (λ ok x. ok)
 
 module _ (t P : Float) (c : ℕ) (ok : searchPermit r245ca t P c true ≡ Granted) where
   asked : Question (pressuresOf t) P c
@@ -153,20 +143,16 @@ module _ (t P : Float) (c : ℕ) (ok : searchPermit r245ca t P c true ≡ Grante
   place-refuses FromBelow e r = any.refuses-with-eight (pressuresOf t) P c (all-numbers t P c ok) e r
   place-refuses FromAbove e r = above-refuses (pressuresOf t) P c (asked .some-cell) (all-numbers t P c ok) starts-low e r .0
 
-  place-refused : (side : Side) (e : Refusal) → plainOf t P c side ≡ Found.Refused e → plainStepOf side (pressuresOf t) P c ≡ Located.Refused e
-  unfolding plainOf
-  place-refused side e r = state-refuses t side (plainStepOf side (pressuresOf t) P c) e (rw ok at r)
-
   -- it refuses with 8 only
   pub only-eight : (side : Side) (e : Refusal) → plainOf t P c side ≡ Found.Refused e → e ≡ NoCell
-  only-eight side e r = place-refuses side e (place-refused side e r)
+  only-eight side e r = place-refuses side e (step-refused t P c side e ok r)
 
   -- from above exactly if the pressure at the top is not above P
   from-above-exactly : (plainOf t P c FromAbove ≡ Found.Refused NoCell) ↔ (le (pressuresOf t (endStep c)) P ≡ true)
   unfolding plainOf foundStateOf
   from-above-exactly =
       let (one, other) = above-refuses-exactly (pressuresOf t) P c (asked .some-cell) (all-numbers t P c ok) starts-low in (
-        (λ r. one (place-refused FromAbove NoCell r)),
+        (λ r. one (step-refused t P c FromAbove NoCell ok r)),
         (λ top. rw (ok, other top)),
       )
 
@@ -185,31 +171,27 @@ module _ (t P : Float) (c : ℕ) (ok : searchPermit r245ca t P c true ≡ Grante
 module _ (t P : Float) (c : ℕ) (side : Side) where
   -- no plain search meets 12
   pub plain-never-12 : plainOf t P c side ≡ Found.Refused WorkNotFinite → ⊥
-  unfolding plainOf
+  unfolding plainOf searchPermit
   plain-never-12 r =
       searched-refuses (searchPermit r245ca t P c true) t side (plainStepOf side (pressuresOf t) P c) WorkNotFinite r
-      (inputs-not-12 t P c true) (λ ok x. other-code tt (place-refuses t P c ok side WorkNotFinite x))
+      (never-denied WorkNotFinite (searchTests r245ca t P c true) tt) (λ ok x. other-code tt (place-refuses t P c ok side WorkNotFinite x))
 
   -- nor does the quick one, whatever its lists hold
   pub quick-never-12 : (g l : List Float) → quickOf t P c side g l ≡ Found.Refused WorkNotFinite → ⊥
-  unfolding quickOf
+  unfolding quickOf searchPermit
   quick-never-12 g l r =
       let room = roomOf c (length g) (length l) in
       searched-refuses (searchPermit r245ca t P c room) t side (quickStep (entriesBy side g l) (pressuresOf t) P c) WorkNotFinite r
-      (inputs-not-12 t P c room)
+      (never-denied WorkNotFinite (searchTests r245ca t P c room) tt)
       (λ ok x.
       let passed = search-passed t P c room ok in
       quick-not-12 (entriesBy side g l) (pressuresOf t) P c (question t P c room ok (keptOf r245ca t) .some-cell) (numbers t (passed .1 .0) c (passed .1 .1 .1 .0)) x)
 
 -- ---- an answered density encloses P, with no proviso for the side from below
-granted-of : (i : Permit) (f : Found) (density : Float) (word : Word) → searched i f ≡ State density word → i ≡ Granted
-granted-of Granted f density word e = refl
-granted-of (Denied r) f density word e = cc
-
 pub plain-encloses : (t P : Float) (c : ℕ) (side : Side) (density : Float) (word : Word) → plainOf t P c side ≡ State density word → Answers t P c side density word
 unfolding plainOf
 plain-encloses t P c FromBelow density word e =
-    let ok = granted-of (searchPermit r245ca t P c true) _ density word e in
+    let (ok, at) = answered-at (searchPermit r245ca t P c true) t FromBelow (plainStepOf FromBelow (pressuresOf t) P c) density word e in
     plain-from-below-encloses t P c density word (number-at-zero t (search-passed t P c true ok .1 .0)) e
 plain-encloses t P c FromAbove density word e = plain-from-above-encloses t P c density word e
 
