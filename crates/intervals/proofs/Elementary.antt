@@ -6,7 +6,7 @@ use Prim.Native.Nat.{ℕ, zero, suc, _+_, _-_, _^_, _≤_, _<_}
 use native.Mathlib.Omega.{arith}
 use lib.Dec.{T, ltb, lit<}
 use lib.IntN.{ℤ, pos, negsuc, _-ℤ_}
-use lib.Ieee.{Float, nan, fin, binary64, ofInt, round, le, lt, eq, neg, add, sub, mul, div}
+use lib.Ieee.{Float, nan, fin, binary64, ofInt, round, le}
 use lib.Ieee.Fits.{and-l, and-r}
 use lib.Ieee.Order.{round-mono}
 use lib.Ieee.Scale.{finite}
@@ -25,25 +25,23 @@ use Rattle.refusals.proofs.Tests.{by}
 use Rattle.refusals.proofs.Apart.{number≢refused}
 use Rattle.intervals.proofs.Fractions.{holds}
 use Rattle.intervals.proofs.Rounding.{round-anti, signs-apart}
-use Rattle.intervals.proofs.Interval.{interval, tested, known, in-known, pick, lesser, greater, hull, across, _▶_, lies}
-use Rattle.intervals.proofs.Sum.{_⊞_, _⊟_, negated}
-use Rattle.intervals.proofs.Product.{_⊠_, productBy, scaled, fourProducts}
-use Rattle.intervals.proofs.Quotient.{_÷_, quotients, onlyIf}
-use Rattle.intervals.proofs.Functions.{expOver, expStepsOver, squaredOver, rootOver, rootStepsOver, ⟨exp⟩, ⟨root⟩}
-use Rattle.intervals.proofs.Logarithm.{lnWorkOver, lnStepsOver, ln-work, m-anywhere}
+use Rattle.intervals.proofs.Interval.{interval, tested, known, in-known}
+use Rattle.intervals.proofs.Functions.{expOver, rootOver, ⟨exp⟩, ⟨root⟩}
+use Rattle.intervals.proofs.Opened.{opened}
+use Rattle.intervals.proofs.Logarithm.{lnWorkOver, ln-work, m-anywhere}
 
 -- ---- exp from −700 to 700, root from 1 to 10⁸
 exp-known : T (known (expOver (interval (minus (real 700)) (real 700))))
-unfolding minus interval pick lesser greater hull across _▶_ lies _⊞_ _⊠_ productBy scaled fourProducts _÷_ quotients onlyIf expOver expStepsOver squaredOver ofInt round le lt eq neg add sub mul div
+unfolding opened
 exp-known = tt
 
 root-known : T (known (rootOver (interval (real 1) (real (10 ^ 8)))))
-unfolding interval pick lesser greater hull across _▶_ lies _⊞_ _÷_ quotients onlyIf rootOver rootStepsOver ofInt round le lt eq neg add sub mul div
+unfolding opened
 root-known = tt
 
 -- ---- ln wherever m and e are
 ln-known : T (known (lnWorkOver (interval (75 e- 2) (15 e- 1)) (interval (ofInt binary64 (negsuc 1023)) (ofInt binary64 (pos 2048)))))
-unfolding interval pick lesser greater hull across _▶_ _⊞_ _⊟_ negated _⊠_ productBy scaled fourProducts _÷_ quotients onlyIf lnWorkOver lnStepsOver ofInt round le lt eq neg add sub mul div
+unfolding opened
 ln-known = tt
 
 abbrev Near : ℤ → Type 0

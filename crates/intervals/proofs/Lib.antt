@@ -9,4 +9,5 @@ pub mod Functions
 pub mod Exponents
 pub mod Logarithm
 pub mod Cancellation
+pub mod Opened
 pub mod Elementary
