@@ -1,7 +1,7 @@
 -- A sum, a product and a quotient are fractions (p − n) / c rounded, and rounding keeps the order of fractions, whatever the signs.
 use mathlib.Core.Path.{_≡_, refl, sym, ap, _∙_, subst₂}
 use mathlib.Core.Logic.{_⊎_, inl, inr}
-use Prim.Native.Nat.{ℕ, zero, suc, _+_, _-_, _*_, _^_, _≤_, _<_}
+use Prim.Native.Nat.{ℕ, suc, _+_, _-_, _*_, _≤_, _<_}
 use native.Mathlib.Nat.{mul-le-mul-right, le-of-mul-le-mul-right}
 use native.Mathlib.Omega.{arith}
 use mathlib.Core.Bool.{Bool, true, false, not, _&&_, cond, true≢false}
@@ -9,53 +9,15 @@ use borrow.Author.Tests.{ne-eqb}
 use lib.IntN.{ℤ}
 use lib.Dec.{T, ltb, eqb, ltb→lt, nltb→le}
 use lib.Pow.{pow-pos}
-use lib.Ieee.{Float, nan, inf, fin, Format, emax, low, prec, up, down, odd, units, round, sum, add, mul, div, neg, le}
+use lib.Ieee.{Float, nan, inf, fin, Format, emax, low, prec, up, down, round, sum, add, mul, div, neg, le}
 use lib.Ieee.Exact.{HasValue, round-exact}
 use lib.Ieee.Positive.{den, positive}
 use lib.Ieee.Scale.{finite}
 use lib.Ieee.Order.{round-mono}
+use Rattle.arithmetic.proofs.Signed.{Signed, round-signed, round-neg}
 use Rattle.intervals.proofs.Fractions.{plus, less, Le, order-of-test, test-of-order}
 
 -- ---- the sign goes through
-abbrev Signed : Bool → Float → Type 0
-Signed s nan = ⊥
-Signed s (inf t) = t ≡ s
-Signed s (fin t m e) = t ≡ s
-
-odd-signed : (d : ℕ) (s : Bool) (q k l : ℕ) → Signed s (odd d s q k l)
-unfolding odd
-odd-signed d s zero k l = refl
-odd-signed d s (suc q) k l = refl
-
-odd-neg : (d q k l : ℕ) → odd d true q k l ≡ neg (odd d false q k l)
-unfolding odd neg
-odd-neg d zero k l = refl
-odd-neg d (suc q) k l = refl
-
-units-signed : (f : Format) (s : Bool) (q k : ℕ) → Signed s (units f s q k)
-unfolding units
-units-signed f s q k = go (ltb (q * 2 ^ k) (2 ^ (low f + suc (emax f))))
-  where
-    go : (b : Bool) → Signed s (cond b (odd (suc (prec f)) s q k (low f)) (inf s))
-    go true = odd-signed (suc (prec f)) s q k (low f)
-    go false = refl
-
-units-neg : (f : Format) (q k : ℕ) → units f true q k ≡ neg (units f false q k)
-unfolding units neg
-units-neg f q k = go (ltb (q * 2 ^ k) (2 ^ (low f + suc (emax f))))
-  where
-    go : (b : Bool) → cond b (odd (suc (prec f)) true q k (low f)) (inf true) ≡ neg (cond b (odd (suc (prec f)) false q k (low f)) (inf false))
-    go true = odd-neg (suc (prec f)) q k (low f)
-    go false = refl
-
-round-signed : (f : Format) (s : Bool) (a c : ℕ) → Signed s (round f s a c)
-unfolding round
-round-signed f s a c = units-signed f s _ _
-
-round-neg : (f : Format) (a c : ℕ) → round f true a c ≡ neg (round f false a c)
-unfolding round
-round-neg f a c = units-neg f _ _
-
 neg-below : (x y : Float) → Signed true x → Signed false y → T (le x y)
 unfolding le
 neg-below (inf true) (inf false) p q = tt
@@ -85,7 +47,7 @@ signs-apart f a c b d = neg-below (round f true a c) (round f false b d) (round-
 
 pub round-anti : (f : Format) (a b c d : ℕ) → 0 < b → 0 < d → a * d ≤ c * b → T (le (round f true c d) (round f true a b))
 round-anti f a b c d B D h =
-    subst₂ (λ (u v : Float). T (le u v)) (sym (round-neg f c d)) (sym (round-neg f a b))
+    subst₂ (λ (u v : Float). T (le u v)) (sym (round-neg f false c d)) (sym (round-neg f false a b))
     (neg-anti (round f false a b) (round f false c d) (round-signed f false a b) (round-signed f false c d) (round-mono f a b c d B D h))
 
 -- ---- zero
@@ -200,5 +162,5 @@ neg-neg (fin true m e) = refl
 neg-neg (fin false m e) = refl
 
 pub rounds-flip : (f : Format) (x : Float) (p n c : ℕ) → Rounds f x p n c → Rounds f (neg x) n p c
-rounds-flip f x p n c (inl (h, e)) = inr (h, ap neg e ∙ sym (round-neg f (p - n) c))
-rounds-flip f x p n c (inr (h, e)) = inl (h, ap neg (e ∙ round-neg f (n - p) c) ∙ neg-neg (round f false (n - p) c))
+rounds-flip f x p n c (inl (h, e)) = inr (h, ap neg e ∙ sym (round-neg f false (p - n) c))
+rounds-flip f x p n c (inr (h, e)) = inl (h, ap neg (e ∙ round-neg f false (n - p) c) ∙ neg-neg (round f false (n - p) c))
