@@ -7,5 +7,8 @@ use Rattle.ranges.proofs.Top.{pressureOver}
 use Rattle.ranges.proofs.Estimates.{estimateOver, estimateAtOver, plusOver, estimatesOver, estimatesKnown}
 
 unfoldable pub entryOpened : Unit {0}
-unfolding opened r245ca squareBy square powerAtOver bellAtOver xAtOver rowAtOver rowComputed sumsComputed addRowOver termOver sumsToOver sumsOver s1ToOver s1Over part0Over part1Over part2Over totalToOver I0Over I1Over I2Over finished stateOver pressureOver estimateOver estimateAtOver plusOver estimatesOver estimatesKnown
+unfolding
+    opened r245ca squareBy square powerAtOver bellAtOver xAtOver rowAtOver rowComputed sumsComputed addRowOver
+    termOver sumsToOver sumsOver s1ToOver s1Over part0Over part1Over part2Over totalToOver I0Over I1Over I2Over
+    finished stateOver pressureOver estimateOver estimateAtOver plusOver estimatesOver estimatesKnown
 entryOpened = tt
