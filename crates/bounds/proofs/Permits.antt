@@ -1,12 +1,11 @@
 -- What a granted permit says of a state, and that no permit of the inputs denies with 12.
-use mathlib.Core.Path.{_≡_, refl, sym, subst}
+use mathlib.Core.Path.{_≡_, refl, subst}
 use mathlib.Core.Bool.{Bool, true, false, cond, _&&_}
 use mathlib.Core.List.{[], _∷_}
 use lib.Dec.{T}
 use lib.Ieee.{Float, nan, inf, fin, le, lt, eq, ofInt, round}
 use lib.Ieee.Fits.{and-i, and-l, and-r}
 use lib.Ieee.Scale.{finite}
-use Rattle.refusals.specs.declared.Refusal.{Refusal}
 use Rattle.refusals.specs.declared.Refusal.the-variants.{InputNotFinite, TemperatureOutside, DensityOutside, WorkNotFinite}
 use Rattle.refusals.specs.declared.Permit.{Permit}
 use Rattle.refusals.specs.declared.Permit.the-variants.{Granted, Denied}
@@ -28,7 +27,7 @@ pub refused-granted : (p : Permit) (v : Float) → (p ≡ Denied WorkNotFinite �
 refused-granted Granted nan n e = (refl, refl)
 refused-granted Granted (inf s) n e = (refl, refl)
 refused-granted Granted (fin s m d) n e = (refl, cc)
-refused-granted (Denied r) v n e = let same : r ≡ WorkNotFinite = cc in absurd (n (subst (λ (x : Refusal). Denied x ≡ Denied WorkNotFinite) (sym same) refl))
+refused-granted (Denied r) v n e = absurd (n (cc))
 
 pub answered : (p : Permit) (v : Float) → p ≡ Granted → T (finite v) → permitted p (answerFrom v) ≡ Number v
 answered p v g f = rw (permitted-granted p (answerFrom v) g) (answer-from-finite v (is-true (finite v) f))

@@ -57,7 +57,7 @@ stable-positive v k q fv fk fq e =
 both-granted : (p s : Permit) (v : Float) → (p ≡ Denied WorkNotFinite → ⊥) → (p ≡ Granted → s ≡ Denied WorkNotFinite → ⊥) → permitted p (permitted s (answerFrom v)) ≡ Refused WorkNotFinite
     → (p ≡ Granted) × (s ≡ Granted) × (finite v ≡ false)
 both-granted Granted s v n m e = let (g, f) = refused-granted s v (m refl) e in (refl, g, f)
-both-granted (Denied r) s v n m e = let same : Denied r ≡ Denied WorkNotFinite = ap Denied (cc) in absurd (n same)
+both-granted (Denied r) s v n m e = absurd (n (cc))
 
 -- ---- how small Q can be
 -- what is apart from 0 by 2⁻⁵⁴ is that large
