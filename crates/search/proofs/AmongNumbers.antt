@@ -15,7 +15,7 @@ use Rattle.search.specs.declared.Located.{Located}
 use Rattle.search.specs.declared.Located.the-variants.{At, Refused}
 use Rattle.search.specs.Plain.{endStep, atEnds, visitUp, cellFromBelow, visitDown, cellFromAbove}
 use Rattle.search.specs.InCell.{halved, inCell}
-use Rattle.search.specs.Searches.{stepFromBelow, stepFromAbove, quickStep}
+use Rattle.search.specs.Searches.{stepBy, quickStep}
 use Rattle.search.specs.Quick.{above, halvedPlaces, enclosing, quickCell}
 use Rattle.refusals.proofs.Tests.{by}
 use Rattle.refusals.proofs.Apart.{other-code}
@@ -92,7 +92,7 @@ down-found q P (suc j) num low =
 
 -- ---- the searches
 module _ (p : ℕ → Float) (P : Float) where
-  pub below-found : (c : ℕ) → 1 ≤ c → Numbers p (endStep c) → lt P (p (endStep c)) ≡ true → HasStep (stepFromBelow p P c)
+  pub below-found : (c : ℕ) → 1 ≤ c → Numbers p (endStep c) → lt P (p (endStep c)) ≡ true → HasStep (stepBy cellFromBelow p P c)
   unfolding cellFromBelow
   below-found zero h num top = absurd (omega arith)
   below-found (suc n) h num top =
@@ -107,18 +107,18 @@ module _ (p : ℕ → Float) (P : Float) where
       (j, under, simp (num (endStep (suc n)) (omega arith), top) e)
 
   module _ (c : ℕ) (some : 1 ≤ c) (num : Numbers p (endStep c)) (low : le (p 0) P ≡ true) where
-    pub above-found : le (p (endStep c)) P ≡ false → HasStep (stepFromAbove p P c)
+    pub above-found : le (p (endStep c)) P ≡ false → HasStep (stepBy cellFromAbove p P c)
     above-found top = step-found p P c num _ (top-cell c some num low top)
 
     -- from above the only refusal is 8, and it comes exactly if the pressure at the top is not above P
-    pub above-refuses : (e : Refusal) → stepFromAbove p P c ≡ Refused e → (e ≡ NoCell) × (le (p (endStep c)) P ≡ true)
+    pub above-refuses : (e : Refusal) → stepBy cellFromAbove p P c ≡ Refused e → (e ≡ NoCell) × (le (p (endStep c)) P ≡ true)
     unfolding cellFromAbove inCell
     above-refuses e r =
         by (le (p (endStep c)) P)
         (λ top. (same-refusal e NoCell (sym (simp (num (endStep c) (omega arith), top) at r)), top))
         (λ top. let (k, f) = above-found top in absurd (found-not-refused k e (sym f ∙ r)))
 
-    pub above-refuses-exactly : (stepFromAbove p P c ≡ Refused NoCell) ↔ (le (p (endStep c)) P ≡ true)
+    pub above-refuses-exactly : (stepBy cellFromAbove p P c ≡ Refused NoCell) ↔ (le (p (endStep c)) P ≡ true)
     unfolding cellFromAbove inCell
     above-refuses-exactly = ((λ r. above-refuses NoCell r .1), (λ top. simp (num (endStep c) (omega arith), top)))
 
