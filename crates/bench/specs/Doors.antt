@@ -9,7 +9,7 @@ use lib.ListN.{length, getD}
 use Rattle.refusals.specs.declared.Answer.{Answer}
 use Rattle.refusals.specs.declared.Answer.the-variants.{Number, Refused}
 use Rattle.arithmetic.specs.Checked.{real}
-use Rattle.fluids.specs.R245ca.{r245ca}
+use Rattle.fluids.specs.declared.Fluid.the-variants.{R245ca}
 use Rattle.equation.specs.Kept.{keptOf, pressureAt}
 use Rattle.density.specs.declared.Side.{Side}
 use Rattle.density.specs.declared.Side.the-variants.{FromBelow, FromAbove}
@@ -37,4 +37,4 @@ totalTo f xs (suc i) = add binary64 (totalTo f xs i) (f (getD xs i nan))
 
 -- the sum of the pressures at the temperature t and each of the densities
 abbrev pub isothermOf : Float → List Float → Float
-isothermOf t densities = totalTo (pressureAt r245ca (keptOf r245ca t)) densities (length densities)
+isothermOf t densities = totalTo (pressureAt (keptOf R245ca t)) densities (length densities)

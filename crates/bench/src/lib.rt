@@ -8,6 +8,7 @@ use elementary::root;
 use equation::keep;
 use equation::pressure_at;
 use exponentials::exp;
+use fluids::Fluid;
 use outcomes::found_code;
 use outcomes::found_word;
 use outcomes::prepared_code;
@@ -21,7 +22,7 @@ ghost use mathlib.Core.Path.{_≡_};
 ghost use Rattle.exponentials.specs.Exp.{expOf};
 ghost use Rattle.elementary.specs.Ln.{lnOf};
 ghost use Rattle.elementary.specs.Root.{rootOf};
-ghost use Rattle.fluids.specs.R245ca.{r245ca};
+ghost use Rattle.fluids.specs.declared.Fluid.the-variants.{R245ca};
 ghost use Rattle.properties.specs.Calls.{pressureOf, entropyOf, isobaricOf, soundSpeedOf};
 ghost use Rattle.density.specs.Calls.{plainOf, quickOf};
 ghost use Rattle.preparation.specs.Prepare.{prepareOf, greatestAfter, leastAfter};
@@ -66,28 +67,28 @@ fn number(answer: Answer) -> f64
 
 #[no_mangle]
 pub extern "C" fn bench_pressure(t: f64, rho: f64) -> f64
-    ensures { λ r. ⌜ r ≡ numberOf (pressureOf r245ca t rho) ⌝ }
+    ensures { λ r. ⌜ r ≡ numberOf (pressureOf R245ca t rho) ⌝ }
 {
     number(pressure(t, rho))
 }
 
 #[no_mangle]
 pub extern "C" fn bench_entropy(t: f64, rho: f64) -> f64
-    ensures { λ r. ⌜ r ≡ numberOf (entropyOf r245ca t rho) ⌝ }
+    ensures { λ r. ⌜ r ≡ numberOf (entropyOf R245ca t rho) ⌝ }
 {
     number(entropy(t, rho))
 }
 
 #[no_mangle]
 pub extern "C" fn bench_isobaric(t: f64, rho: f64) -> f64
-    ensures { λ r. ⌜ r ≡ numberOf (isobaricOf r245ca t rho) ⌝ }
+    ensures { λ r. ⌜ r ≡ numberOf (isobaricOf R245ca t rho) ⌝ }
 {
     number(isobaric_heat_capacity(t, rho))
 }
 
 #[no_mangle]
 pub extern "C" fn bench_sound_speed(t: f64, rho: f64) -> f64
-    ensures { λ r. ⌜ r ≡ numberOf (soundSpeedOf r245ca t rho) ⌝ }
+    ensures { λ r. ⌜ r ≡ numberOf (soundSpeedOf R245ca t rho) ⌝ }
 {
     number(sound_speed(t, rho))
 }
@@ -97,7 +98,7 @@ pub extern "C" fn bench_sound_speed(t: f64, rho: f64) -> f64
 pub extern "C" fn bench_isotherm(t: f64, densities: &[f64]) -> f64
     ensures { λ r. ⌜ r ≡ isothermOf t (now (densities .entry)) ⌝ }
 {
-    let kept = keep(t);
+    let kept = keep(Fluid::R245ca, t);
     let mut total = 0.0;
     let mut i: usize = 0;
     while i < densities.len() {
@@ -133,21 +134,21 @@ fn side_of(n: u32) -> Side
 
 #[no_mangle]
 pub extern "C" fn bench_plain(t: f64, p: f64, c: usize, side: u32) -> f64
-    ensures { λ r. ⌜ r ≡ foundDensity (plainOf t p c (sideOf side)) ⌝ }
+    ensures { λ r. ⌜ r ≡ foundDensity (plainOf R245ca t p c (sideOf side)) ⌝ }
 {
     found_density(plain(t, p, c, side_of(side)))
 }
 
 #[no_mangle]
 pub extern "C" fn bench_plain_code(t: f64, p: f64, c: usize, side: u32) -> u32
-    ensures { λ r. ⌜ r ≡ foundCodeOf (plainOf t p c (sideOf side)) ⌝ }
+    ensures { λ r. ⌜ r ≡ foundCodeOf (plainOf R245ca t p c (sideOf side)) ⌝ }
 {
     found_code(plain(t, p, c, side_of(side)))
 }
 
 #[no_mangle]
 pub extern "C" fn bench_plain_word(t: f64, p: f64, c: usize, side: u32) -> u64
-    ensures { λ r. ⌜ r ≡ foundWordOf (plainOf t p c (sideOf side)) ⌝ }
+    ensures { λ r. ⌜ r ≡ foundWordOf (plainOf R245ca t p c (sideOf side)) ⌝ }
 {
     found_word(plain(t, p, c, side_of(side)))
 }
@@ -155,9 +156,9 @@ pub extern "C" fn bench_plain_word(t: f64, p: f64, c: usize, side: u32) -> u64
 // 0 where the lists are ready, else the refusal's number.
 #[no_mangle]
 pub extern "C" fn bench_prepare(t: f64, c: usize, greatest: &mut [f64], least: &mut [f64]) -> u32
-    ensures { λ r. ⌜ (r ≡ preparedCodeOf (prepareOf t c (now (greatest .entry)) (now (least .entry))))
-        × (now (greatest .exit) ≡ greatestAfter t c (now (greatest .entry)) (now (least .entry)))
-        × (now (least .exit) ≡ leastAfter t c (now (greatest .entry)) (now (least .entry))) ⌝ }
+    ensures { λ r. ⌜ (r ≡ preparedCodeOf (prepareOf R245ca t c (now (greatest .entry)) (now (least .entry))))
+        × (now (greatest .exit) ≡ greatestAfter R245ca t c (now (greatest .entry)) (now (least .entry)))
+        × (now (least .exit) ≡ leastAfter R245ca t c (now (greatest .entry)) (now (least .entry))) ⌝ }
 {
     prepared_code(prepare(t, c, greatest, least))
 }
@@ -171,7 +172,7 @@ pub extern "C" fn bench_quick(
     greatest: &[f64],
     least: &[f64],
 ) -> f64
-    ensures { λ r. ⌜ r ≡ foundDensity (quickOf t p c (sideOf side) (now (greatest .entry)) (now (least .entry))) ⌝ }
+    ensures { λ r. ⌜ r ≡ foundDensity (quickOf R245ca t p c (sideOf side) (now (greatest .entry)) (now (least .entry))) ⌝ }
 {
     found_density(quick(t, p, c, side_of(side), greatest, least))
 }
@@ -185,7 +186,7 @@ pub extern "C" fn bench_quick_code(
     greatest: &[f64],
     least: &[f64],
 ) -> u32
-    ensures { λ r. ⌜ r ≡ foundCodeOf (quickOf t p c (sideOf side) (now (greatest .entry)) (now (least .entry))) ⌝ }
+    ensures { λ r. ⌜ r ≡ foundCodeOf (quickOf R245ca t p c (sideOf side) (now (greatest .entry)) (now (least .entry))) ⌝ }
 {
     found_code(quick(t, p, c, side_of(side), greatest, least))
 }
@@ -199,7 +200,7 @@ pub extern "C" fn bench_quick_word(
     greatest: &[f64],
     least: &[f64],
 ) -> u64
-    ensures { λ r. ⌜ r ≡ foundWordOf (quickOf t p c (sideOf side) (now (greatest .entry)) (now (least .entry))) ⌝ }
+    ensures { λ r. ⌜ r ≡ foundWordOf (quickOf R245ca t p c (sideOf side) (now (greatest .entry)) (now (least .entry))) ⌝ }
 {
     found_word(quick(t, p, c, side_of(side), greatest, least))
 }

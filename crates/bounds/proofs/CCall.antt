@@ -19,46 +19,45 @@ use Rattle.refusals.specs.declared.Answer.{Answer}
 use Rattle.refusals.specs.declared.Answer.the-variants.{Number}
 use Rattle.refusals.specs.Code.{codeOf, answerCodeOf}
 use Rattle.refusals.specs.Order.{testedOf, permitted}
-use Rattle.fluids.specs.R245ca.{r245ca}
+use Rattle.fluids.specs.declared.Fluid.{Fluid}
+use Rattle.fluids.specs.declared.Fluid.the-variants.{R245ca}
+use Rattle.fluids.specs.Entries.{entryOf}
 use Rattle.fluids.proofs.Sound.{every}
 use Rattle.records.specs.declared.Kind.{Kind}
 use Rattle.records.specs.declared.Kind.the-variants.{Density, FromBelow, FromAbove, NoSide}
 use Rattle.records.specs.declared.Record.{Record}
 use Rattle.records.specs.declared.Record.the-variants.{Numbers, NoReading, Unknown, Cut}
-use Rattle.records.specs.declared.Question.{Question}
-use Rattle.records.specs.declared.Question.the-variants.{State, Search}
+use Rattle.questions.specs.declared.Question.{Question}
+use Rattle.questions.specs.declared.Question.the-variants.{State, Search}
 use Rattle.outcomes.specs.Codes.{foundAnswerOf}
-use Rattle.records.specs.Record.{recordOf, askedBy, askedOf, questionOf, densityAt, workOf}
-use Rattle.records.specs.Call.{inputsOf, permitOf, callOf, callCode}
+use Rattle.records.specs.Record.{recordOf}
+use Rattle.questions.specs.Asked.{askedBy, askedOf, questionOf, densityAt, workOf}
+use Rattle.questions.specs.Call.{inputsOf, permitOf, callOf, callCode}
 use Rattle.refusals.specs.Code.{OneOf}
-use Rattle.inputs.specs.Inputs.{topTest, stateTests, askedTests, statePermit, askedPermit, searchPermit}
+use Rattle.inputs.specs.Inputs.{stateTests, askedTests, statePermit, askedPermit, searchPermit}
 use Rattle.bounds.specs.Records.{RecordCalls}
 use Rattle.intervals.proofs.Fractions.{is-true}
-use Rattle.ranges.proofs.R245ca.{r245ca-passes}
+use Rattle.inputs.proofs.Passed.{top-permitted}
 use Rattle.bounds.proofs.NeverTwelve.{pressure-answered}
 use Rattle.bounds.proofs.Searches.{every-question-answered}
 use Rattle.refusals.proofs.InOrder.{denied-code, by-permit}
 
 -- ---- permitted numbers are those that the calls permit
-top-permitted : topTest r245ca 1664 .0 ≡ true
-unfolding r245ca
-top-permitted = refl
-
-search-permitted : (t P : Float) → askedPermit r245ca t P ≡ Granted → searchPermit r245ca t P 1664 true ≡ Granted
+search-permitted : (F : Fluid) (t P : Float) → askedPermit F t P ≡ Granted → searchPermit F t P (entryOf F .topCells) true ≡ Granted
 unfolding askedPermit searchPermit
-search-permitted t P ok = simp top-permitted ok
+search-permitted F t P ok = simp (top-permitted F) ok
 
 -- ---- so the work has a number
 Answered : Answer → Type 0
 Answered a = (x : Float) × (a ≡ Number x)
 
-work-answered : (asked : Question) → inputsOf asked ≡ Granted → Answered (workOf asked)
+work-answered : (F : Fluid) (asked : Question) → inputsOf F asked ≡ Granted → Answered (workOf F asked)
 unfolding Answered
-work-answered (State t ρ) ok = (_, pressure-answered r245ca r245ca-passes t ρ ok)
-work-answered (Search t P side) ok =
-    let (density, word, e) = every-question-answered t P side (search-permitted t P ok) in
+work-answered F (State t ρ) ok = (_, pressure-answered F t ρ ok)
+work-answered F (Search t P side) ok =
+    let (density, word, e) = every-question-answered F t P side (search-permitted F t P ok) in
     (density, unfold densityAt in ap foundAnswerOf e)
-work-answered (Question.Refused r) ok = let z : _≡_ {A = ℕ} 0 1 = cc in absurd (omega arith)
+work-answered F (Question.Refused r) ok = let z : _≡_ {A = ℕ} 0 1 = cc in absurd (omega arith)
 
 -- ---- the refusals that a record's permit can deny with
 abbrev refusalCodes : List ℕ
@@ -70,29 +69,29 @@ Listed p = (r : Refusal) → p ≡ Denied r → OneOf (codeOf r) refusalCodes
 one-listed : (e : Refusal) → OneOf (codeOf e) refusalCodes → Listed (Denied e)
 one-listed e h r d = let same : e ≡ r = cc in subst (λ (x : Refusal). OneOf (codeOf x) refusalCodes) same h
 
-state-listed : (t ρ : Float) → Listed (statePermit r245ca t ρ)
+state-listed : (F : Fluid) (t ρ : Float) → Listed (statePermit F t ρ)
 unfolding statePermit
-state-listed t ρ = denied-code refusalCodes (stateTests r245ca t ρ) tt
+state-listed F t ρ = denied-code refusalCodes (stateTests F t ρ) tt
 
-asked-listed : (t P : Float) → Listed (askedPermit r245ca t P)
+asked-listed : (F : Fluid) (t P : Float) → Listed (askedPermit F t P)
 unfolding askedPermit
-asked-listed t P = denied-code refusalCodes (askedTests r245ca t P) tt
+asked-listed F t P = denied-code refusalCodes (askedTests F t P) tt
 
-kind-listed : (kind : Kind) (t x : Float) → Listed (inputsOf (askedBy kind t x))
-kind-listed Density t x = state-listed t x
-kind-listed FromBelow t x = asked-listed t x
-kind-listed FromAbove t x = asked-listed t x
-kind-listed NoSide t x = asked-listed t x
+kind-listed : (F : Fluid) (kind : Kind) (t x : Float) → Listed (inputsOf F (askedBy kind t x))
+kind-listed F Density t x = state-listed F t x
+kind-listed F FromBelow t x = asked-listed F t x
+kind-listed F FromAbove t x = asked-listed F t x
+kind-listed F NoSide t x = asked-listed F t x
 
-record-listed : (r : Record) → Listed (inputsOf (askedOf r))
-record-listed (Numbers kind x y) = kind-listed kind _ _
-record-listed NoReading = one-listed Refusal.NoReading (inl refl)
-record-listed Unknown = one-listed UnknownMark (inr (inr (inr (inr (inr (inr (inl refl)))))))
-record-listed Cut = one-listed CutShort (inr (inr (inr (inr (inr (inr (inr (inl refl))))))))
+record-listed : (F : Fluid) (r : Record) → Listed (inputsOf F (askedOf r))
+record-listed F (Numbers kind x y) = kind-listed F kind _ _
+record-listed F NoReading = one-listed Refusal.NoReading (inl refl)
+record-listed F Unknown = one-listed UnknownMark (inr (inr (inr (inr (inr (inr (inl refl)))))))
+record-listed F Cut = one-listed CutShort (inr (inr (inr (inr (inr (inr (inr (inl refl))))))))
 
-question-listed : (s : List ℕ) → Listed (inputsOf (questionOf s))
+question-listed : (F : Fluid) (s : List ℕ) → Listed (inputsOf F (questionOf s))
 unfolding questionOf
-question-listed s = record-listed (recordOf s)
+question-listed F s = record-listed F (recordOf s)
 
 room-listed : (p : Permit) (room : ℕ) → Listed p → Listed (testedOf p (leb 8 room) TooShort)
 room-listed Granted room ok = denied-code refusalCodes ((leb 8 room, TooShort) ∷ []) tt
@@ -115,21 +114,21 @@ above-0 (x ∷ xs) ok n (inr h) = above-0 xs (and-r (ltb 0 x) (every (ltb 0) xs)
 
 module _ (s out : List ℕ) where
   permit : Permit
-  permit = permitOf (questionOf s) (length out)
+  permit = permitOf R245ca (questionOf s) (length out)
 
-  answered-there : permit ≡ Granted → Answered (workOf (questionOf s))
+  answered-there : permit ≡ Granted → Answered (workOf R245ca (questionOf s))
   unfolding permit permitOf
-  answered-there g = work-answered (questionOf s) (inputs-granted (inputsOf (questionOf s)) (length out) g)
+  answered-there g = work-answered R245ca (questionOf s) (inputs-granted (inputsOf R245ca (questionOf s)) (length out) g)
 
   permit-listed : Listed permit
   unfolding permit permitOf
-  permit-listed = room-listed (inputsOf (questionOf s)) (length out) (question-listed s)
+  permit-listed = room-listed (inputsOf R245ca (questionOf s)) (length out) (question-listed R245ca s)
 
   call-code : OneOf (callCode s out) (0 ∷ refusalCodes)
   unfolding permit callCode callOf
   call-code =
       by-permit permit
-      (λ g. inl (code-where-granted permit (workOf (questionOf s)) answered-there g))
+      (λ g. inl (code-where-granted permit (workOf R245ca (questionOf s)) answered-there g))
       (λ r d. rw d (inr (permit-listed r d)))
 
   granted-by-code : callCode s out ≡ 0 → permit ≡ Granted
@@ -139,6 +138,6 @@ module _ (s out : List ℕ) where
 pub record-calls : RecordCalls
 unfolding permit callCode callOf
 record-calls = record {
-  answered = λ s out. (granted-by-code s out, code-where-granted (permit s out) (workOf (questionOf s)) (answered-there s out));
+  answered = λ s out. (granted-by-code s out, code-where-granted (permit s out) (workOf R245ca (questionOf s)) (answered-there s out));
   code = call-code;
 }

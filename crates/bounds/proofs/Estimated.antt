@@ -12,32 +12,34 @@ use Rattle.refusals.specs.Order.{firstOf}
 use Rattle.refusals.proofs.Needed.{test-passed, rest-granted}
 use Rattle.arithmetic.specs.Checked.{between}
 use Rattle.arithmetic.proofs.Order as tests
-use Rattle.fluids.specs.Fluid.{Fluid}
+use Rattle.fluids.specs.declared.Fluid.{Fluid}
+use Rattle.fluids.specs.Entries.{entryOf}
 use Rattle.saturation.specs.Estimates.{pressureEstimate, liquidEstimate, vapourEstimate}
 use Rattle.inputs.specs.Inputs.{saturationPermit}
 use Rattle.saturation.specs.Calls.{saturationPressureOf, saturatedLiquidOf, saturatedVapourOf}
 use Rattle.intervals.proofs.Fractions.{holds}
 use Rattle.refusals.proofs.InOrder.{never-denied}
 use Rattle.bounds.proofs.Permits.{never-12}
-use Rattle.ranges.proofs.Estimates.{estimateEnds, estimatesKnown, estimates-finite}
+use Rattle.ranges.proofs.Estimates.{estimates-finite}
+use Rattle.ranges.proofs.R245ca.{entry-estimate-ends, entry-estimates}
 
-module _ (F : Fluid) (fine : T (estimateEnds F)) (ok : T (estimatesKnown F)) (t : Float) where
-  saturation-granted : saturationPermit F t ≡ Granted → T (le (F .leastT) t) × T (le t (F .Tc))
+module _ (F : Fluid) (t : Float) where
+  saturation-granted : saturationPermit F t ≡ Granted → T (le (entryOf F .leastT) t) × T (le t (entryOf F .Tc))
   unfolding saturationPermit
   saturation-granted p =
-      let last = firstOf ((le t (F .Tc), AboveCritical) ∷ []) in
-      let inner = firstOf ((between (F .leastT) t (F .greatestT), TemperatureOutside) ∷ (le t (F .Tc), AboveCritical) ∷ []) in
+      let last = firstOf ((le t (entryOf F .Tc), AboveCritical) ∷ []) in
+      let inner = firstOf ((between (entryOf F .leastT) t (entryOf F .greatestT), TemperatureOutside) ∷ (le t (entryOf F .Tc), AboveCritical) ∷ []) in
       let q = rest-granted (finite t) inner InputNotFinite p in (
-        and-l (le (F .leastT) t) (le t (F .greatestT)) (holds (between (F .leastT) t (F .greatestT)) (test-passed _ last TemperatureOutside q)),
-        holds (le t (F .Tc)) (test-passed _ Granted AboveCritical (rest-granted (between (F .leastT) t (F .greatestT)) last TemperatureOutside q)),
+        and-l (le (entryOf F .leastT) t) (le t (entryOf F .greatestT)) (holds (between (entryOf F .leastT) t (entryOf F .greatestT)) (test-passed _ last TemperatureOutside q)),
+        holds (le t (entryOf F .Tc)) (test-passed _ Granted AboveCritical (rest-granted (between (entryOf F .leastT) t (entryOf F .greatestT)) last TemperatureOutside q)),
       )
 
   saturation-denied : saturationPermit F t ≡ Denied WorkNotFinite → ⊥
   unfolding saturationPermit
-  saturation-denied = never-denied WorkNotFinite ((finite t, InputNotFinite) ∷ (between (F .leastT) t (F .greatestT), TemperatureOutside) ∷ (le t (F .Tc), AboveCritical) ∷ []) tt
+  saturation-denied = never-denied WorkNotFinite ((finite t, InputNotFinite) ∷ (between (entryOf F .leastT) t (entryOf F .greatestT), TemperatureOutside) ∷ (le t (entryOf F .Tc), AboveCritical) ∷ []) tt
 
   pub granted-finite : saturationPermit F t ≡ Granted → T (finite (pressureEstimate F t)) × T (finite (liquidEstimate F t)) × T (finite (vapourEstimate F t))
-  granted-finite g = let (low, high) = saturation-granted g in estimates-finite F fine ok t low high
+  granted-finite g = let (low, high) = saturation-granted g in estimates-finite F (entry-estimate-ends F) (entry-estimates F) t low high
 
   pub saturation-pressure-never-12 : saturationPressureOf F t ≡ Refused WorkNotFinite → ⊥
   unfolding saturationPressureOf

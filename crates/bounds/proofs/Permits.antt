@@ -17,7 +17,8 @@ use Rattle.refusals.proofs.InOrder.{never-denied}
 use Rattle.arithmetic.specs.Answered.{answerFrom}
 use Rattle.arithmetic.proofs.Answered.{answer-from-finite}
 use Rattle.arithmetic.proofs.Order.{le-trans}
-use Rattle.fluids.specs.Fluid.{Fluid}
+use Rattle.fluids.specs.declared.Fluid.{Fluid}
+use Rattle.fluids.specs.Entries.{entryOf}
 use Rattle.properties.specs.Calls.{workedDensity}
 use Rattle.inputs.specs.Inputs.{stateTests, potentialTests, statePermit, potentialPermit}
 use Rattle.intervals.proofs.Fractions.{holds, is-true}
@@ -46,28 +47,28 @@ module _ (F : Fluid) (t ρ : Float) where
   unfolding potentialPermit
   potential-denied = never-denied WorkNotFinite (potentialTests F t ρ) tt
 
-  pub state-granted : statePermit F t ρ ≡ Granted → T (between (F .leastT) t (F .greatestT)) × T (between (real 0) ρ (F .greatestρ))
+  pub state-granted : statePermit F t ρ ≡ Granted → T (between (entryOf F .leastT) t (entryOf F .greatestT)) × T (between (real 0) ρ (entryOf F .greatestρ))
   unfolding statePermit
   state-granted p =
-      let last = firstOf ((between (real 0) ρ (F .greatestρ), DensityOutside) ∷ []) in
-      let inner = firstOf ((between (F .leastT) t (F .greatestT), TemperatureOutside) ∷ (between (real 0) ρ (F .greatestρ), DensityOutside) ∷ []) in
+      let last = firstOf ((between (real 0) ρ (entryOf F .greatestρ), DensityOutside) ∷ []) in
+      let inner = firstOf ((between (entryOf F .leastT) t (entryOf F .greatestT), TemperatureOutside) ∷ (between (real 0) ρ (entryOf F .greatestρ), DensityOutside) ∷ []) in
       let q = rest-granted (finite t && finite ρ) inner InputNotFinite p in (
-        holds (between (F .leastT) t (F .greatestT)) (test-passed _ last TemperatureOutside q),
-        holds (between (real 0) ρ (F .greatestρ)) (test-passed _ Granted DensityOutside (rest-granted (between (F .leastT) t (F .greatestT)) last TemperatureOutside q)),
+        holds (between (entryOf F .leastT) t (entryOf F .greatestT)) (test-passed _ last TemperatureOutside q),
+        holds (between (real 0) ρ (entryOf F .greatestρ)) (test-passed _ Granted DensityOutside (rest-granted (between (entryOf F .leastT) t (entryOf F .greatestT)) last TemperatureOutside q)),
       )
 
   -- a density of minus zero is worked as +0, which is in the range too
-  pub worked-in-range : T (between (real 0) ρ (F .greatestρ)) → T (between (real 0) (workedDensity ρ) (F .greatestρ))
+  pub worked-in-range : T (between (real 0) ρ (entryOf F .greatestρ)) → T (between (real 0) (workedDensity ρ) (entryOf F .greatestρ))
   unfolding workedDensity
   worked-in-range h = go (eq ρ (real 0))
     where
       zero-in : T (le (real 0) (real 0))
       zero-in = unfold ofInt round le lt eq in tt
 
-      go : (b : Bool) → T (between (real 0) (cond b (real 0) ρ) (F .greatestρ))
+      go : (b : Bool) → T (between (real 0) (cond b (real 0) ρ) (entryOf F .greatestρ))
       go true =
-          and-i (le (real 0) (real 0)) (le (real 0) (F .greatestρ)) zero-in
-          (holds (le (real 0) (F .greatestρ))
-          (le-trans (real 0) ρ (F .greatestρ)
-          (is-true (le (real 0) ρ) (and-l (le (real 0) ρ) (le ρ (F .greatestρ)) h)) (is-true (le ρ (F .greatestρ)) (and-r (le (real 0) ρ) (le ρ (F .greatestρ)) h))))
+          and-i (le (real 0) (real 0)) (le (real 0) (entryOf F .greatestρ)) zero-in
+          (holds (le (real 0) (entryOf F .greatestρ))
+          (le-trans (real 0) ρ (entryOf F .greatestρ)
+          (is-true (le (real 0) ρ) (and-l (le (real 0) ρ) (le ρ (entryOf F .greatestρ)) h)) (is-true (le ρ (entryOf F .greatestρ)) (and-r (le (real 0) ρ) (le ρ (entryOf F .greatestρ)) h))))
       go false = h

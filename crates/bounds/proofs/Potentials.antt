@@ -20,15 +20,17 @@ use Rattle.arithmetic.specs.Answered.{answerFrom}
 use Rattle.arithmetic.proofs.Operations.{nan-⊕, nan-⊖}
 use Rattle.arithmetic.proofs.Zeros.{times-nan, plus-nan}
 use Rattle.arithmetic.proofs.Order.{lt-of-not-le, not-le-of-lt}
-use Rattle.fluids.specs.Fluid.{Fluid}
+use Rattle.fluids.specs.declared.Fluid.{Fluid}
 use Rattle.ideal.specs.Ideal.{I0}
-use Rattle.values.specs.Values.{δ, i0, entropyValue, gibbsValue, helmholtzValue}
+use Rattle.equation.specs.declared.state.State.{State}
+use Rattle.equation.specs.Kept.{stateAt}
+use Rattle.values.specs.Values.{i0, entropyValue, gibbsOverRT, gibbsValue, helmholtzValue}
 use Rattle.properties.specs.Calls.{workedDensity, entropyOf, gibbsOf, helmholtzOf}
 use Rattle.inputs.specs.Inputs.{stateTests, statePermit, potentialPermit}
 use Rattle.refusals.proofs.Tests.{by}
 use Rattle.intervals.proofs.Fractions.{holds, finite-number}
 use Rattle.bounds.specs.NoAnswer.{SmallDensity}
-use Rattle.ranges.proofs.Entry.{passes, Finite}
+use Rattle.ranges.proofs.Entry.{Finite}
 use Rattle.intervals.proofs.Elementary.{ln-outside}
 use Rattle.bounds.proofs.Permits.{refused-granted, potential-denied}
 use Rattle.bounds.proofs.NeverTwelve.{finite-where-granted}
@@ -58,23 +60,23 @@ module _ (x : Float) where
   less-nan : x ⊖ nan ≡ nan
   less-nan = nan-⊖ x .1
 
-module _ (F : Fluid) (t r : Float) (small : le (two⁻ 60) (δ F t r) ≡ false) where
-  no-ln : lnOf (δ F t r) ≡ nan
-  no-ln = ln-outside (δ F t r) (rw small)
+module _ (s : State) (small : le (two⁻ 60) (s .delta) ≡ false) where
+  no-ln : lnOf (s .delta) ≡ nan
+  no-ln = ln-outside (s .delta) (rw small)
 
-  no-i0 : i0 F t r ≡ nan
+  no-i0 : i0 s ≡ nan
   unfolding i0 I0
   no-i0 = simp (no-ln, plus-nan, nan-plus)
 
-  no-helmholtz : helmholtzValue F t r ≡ nan
+  no-helmholtz : helmholtzValue s ≡ nan
   unfolding helmholtzValue
   no-helmholtz = simp (no-i0, nan-plus, times-nan)
 
-  no-gibbs : gibbsValue F t r ≡ nan
-  unfolding gibbsValue
+  no-gibbs : gibbsValue s ≡ nan
+  unfolding gibbsValue gibbsOverRT
   no-gibbs = simp (no-i0, plus-nan, nan-plus, times-nan)
 
-  no-entropy : entropyValue F t r ≡ nan
+  no-entropy : entropyValue s ≡ nan
   unfolding entropyValue
   no-entropy = simp (no-i0, less-nan, nan-less, times-nan)
 
@@ -83,34 +85,34 @@ tiny-number : isNan (two⁻ 60) ≡ false
 unfolding isNan round
 tiny-number = refl
 
-module _ (F : Fluid) (ok : T (passes F)) (t ρ : Float) where
+module _ (F : Fluid) (t ρ : Float) where
   in-range : potentialPermit F t ρ ≡ Granted → Finite F t ρ
-  in-range g = subst (Finite F t) (worked-itself F t ρ g) (finite-where-granted F ok t ρ (both F t ρ g .0))
+  in-range g = subst (Finite F t) (worked-itself F t ρ g) (finite-where-granted F t ρ (both F t ρ g .0))
 
-  exactly : (v : Float → Float) → (potentialPermit F t ρ ≡ Granted → T (le (two⁻ 60) (δ F t ρ)) → T (finite (v ρ))) → (le (two⁻ 60) (δ F t ρ) ≡ false → v ρ ≡ nan)
-      → (permitted (potentialPermit F t ρ) (answerFrom (v (workedDensity ρ))) ≡ Refused WorkNotFinite) ↔ SmallDensity F t ρ
+  exactly : (v : State → Float) → (potentialPermit F t ρ ≡ Granted → T (le (two⁻ 60) (stateAt F t ρ .delta)) → T (finite (v (stateAt F t ρ)))) → (le (two⁻ 60) (stateAt F t ρ .delta) ≡ false → v (stateAt F t ρ) ≡ nan)
+      → (permitted (potentialPermit F t ρ) (answerFrom (v (stateAt F t (workedDensity ρ)))) ≡ Refused WorkNotFinite) ↔ SmallDensity F t ρ
   exactly v number none = (
     (λ r.
-        let (g, not-finite) = refused-granted (potentialPermit F t ρ) (v (workedDensity ρ)) (potential-denied F t ρ) r in (
+        let (g, not-finite) = refused-granted (potentialPermit F t ρ) (v (stateAt F t (workedDensity ρ))) (potential-denied F t ρ) r in (
           g,
-          by (le (two⁻ 60) (δ F t ρ))
-              (λ large. absurd (subst T not-finite (subst (λ (x : Float). T (finite (v x))) (sym (worked-itself F t ρ g)) (number g (holds (le (two⁻ 60) (δ F t ρ)) large)))))
-              (λ small. lt-of-not-le (two⁻ 60) (δ F t ρ) tiny-number (finite-number (δ F t ρ) (in-range g .reduced)) small),
+          by (le (two⁻ 60) (stateAt F t ρ .delta))
+              (λ large. absurd (subst T not-finite (subst (λ (x : Float). T (finite (v (stateAt F t x)))) (sym (worked-itself F t ρ g)) (number g (holds (le (two⁻ 60) (stateAt F t ρ .delta)) large)))))
+              (λ small. lt-of-not-le (two⁻ 60) (stateAt F t ρ .delta) tiny-number (finite-number (stateAt F t ρ .delta) (in-range g .reduced)) small),
         )),
     (λ (g, small).
-        permitted-granted (potentialPermit F t ρ) (answerFrom (v (workedDensity ρ))) g
-        ∙ ap answerFrom (ap v (worked-itself F t ρ g)
-        ∙ none (not-le-of-lt (two⁻ 60) (δ F t ρ) tiny-number (finite-number (δ F t ρ) (in-range g .reduced)) small))),
+        permitted-granted (potentialPermit F t ρ) (answerFrom (v (stateAt F t (workedDensity ρ)))) g
+        ∙ ap answerFrom (ap (λ (x : Float). v (stateAt F t x)) (worked-itself F t ρ g)
+        ∙ none (not-le-of-lt (two⁻ 60) (stateAt F t ρ .delta) tiny-number (finite-number (stateAt F t ρ .delta) (in-range g .reduced)) small))),
   )
 
   pub entropy-12 : (entropyOf F t ρ ≡ Refused WorkNotFinite) ↔ SmallDensity F t ρ
   unfolding entropyOf
-  entropy-12 = exactly (entropyValue F t) (λ g. in-range g .entropy) (no-entropy F t ρ)
+  entropy-12 = exactly entropyValue (λ g. in-range g .entropy) (no-entropy (stateAt F t ρ))
 
   pub gibbs-12 : (gibbsOf F t ρ ≡ Refused WorkNotFinite) ↔ SmallDensity F t ρ
   unfolding gibbsOf
-  gibbs-12 = exactly (gibbsValue F t) (λ g. in-range g .gibbs) (no-gibbs F t ρ)
+  gibbs-12 = exactly gibbsValue (λ g. in-range g .gibbs) (no-gibbs (stateAt F t ρ))
 
   pub helmholtz-12 : (helmholtzOf F t ρ ≡ Refused WorkNotFinite) ↔ SmallDensity F t ρ
   unfolding helmholtzOf
-  helmholtz-12 = exactly (helmholtzValue F t) (λ g. in-range g .helmholtz) (no-helmholtz F t ρ)
+  helmholtz-12 = exactly helmholtzValue (λ g. in-range g .helmholtz) (no-helmholtz (stateAt F t ρ))

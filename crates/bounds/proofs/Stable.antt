@@ -22,9 +22,11 @@ use Rattle.arithmetic.specs.Checked.{real, two⁻, between, _⊕_, _⊗_}
 use Rattle.elementary.specs.Root.{rootOf}
 use Rattle.arithmetic.specs.Answered.{answerFrom}
 use Rattle.arithmetic.proofs.Order as tests
-use Rattle.fluids.specs.Fluid.{Fluid}
-use Rattle.equation.specs.Kept.{keptOf}
-use Rattle.values.specs.Values.{sums, «V», K, Q, isobaricValue, soundSpeedValue}
+use Rattle.fluids.specs.declared.Fluid.{Fluid}
+use Rattle.equation.specs.Kept.{keptOf, stateOf, stateAt}
+use Rattle.equation.proofs.Entry.{kept-fluid, kept-t}
+use Rattle.arithmetic.proofs.Operations.{⊖-squashed}
+use Rattle.values.specs.Values.{«V», K, Q, stabilityOf, soundSpeedFrom, isobaricValue, soundSpeedValue}
 use Rattle.properties.specs.Calls.{workedDensity, stableOf, stabilityPermit, isobaricOf, soundSpeedOf}
 use Rattle.inputs.specs.Inputs.{statePermit}
 use Rattle.refusals.proofs.Tests.{by, and-passed}
@@ -34,7 +36,6 @@ use Rattle.intervals.proofs.Representable.{sum-fits, product-fits, sum-is, summ
 use Rattle.ranges.proofs.Rows.{s2-fits}
 use Rattle.intervals.proofs.Cancellation.{Large, Apart, zero-test, denominator, sum-apart, one-apart}
 use Rattle.intervals.proofs.Elementary.{root-in-range, root-outside}
-use Rattle.ranges.proofs.Entry.{passes}
 use Rattle.ranges.proofs.Estimates.{finite-two⁻54}
 use Rattle.intervals.proofs.Sum.{neg-finite}
 use Rattle.bounds.proofs.Permits.{refused-granted, state-denied}
@@ -96,44 +97,49 @@ q-large x s fx fs f above not-zero =
           ]
     ]
 
-module _ (F : Fluid) (ok : T (passes F)) (t ρ : Float) where
-  stability-denied : statePermit F t ρ ≡ Granted → stabilityPermit F t (workedDensity ρ) ≡ Denied WorkNotFinite → ⊥
+module _ (F : Fluid) (t ρ : Float) where
+  stability-denied : statePermit F t ρ ≡ Granted → stabilityPermit (stateAt F t (workedDensity ρ)) ≡ Denied WorkNotFinite → ⊥
   unfolding stabilityPermit
   stability-denied g =
-      let f = finite-where-granted F ok t ρ g in
-      stable-denied («V» F t (workedDensity ρ)) (K F t (workedDensity ρ)) (Q F t (workedDensity ρ)) (f .v) (f .k) (f .q)
+      let f = finite-where-granted F t ρ g in
+      stable-denied («V» (stateAt F t (workedDensity ρ))) (K (stateAt F t (workedDensity ρ))) (Q (stateAt F t (workedDensity ρ))) (f .v) (f .k) (f .q)
 
   -- ---- sound speed
+  -- its value is the root of the argument
+  sound-speed-is : soundSpeedValue (stateAt F t (workedDensity ρ)) ≡ rootOf (rootArgument F t ρ)
+  unfolding soundSpeedValue soundSpeedFrom stabilityOf «V» stateOf
+  sound-speed-is = simp (⊖-squashed, kept-fluid, kept-t)
+
   pub sound-speed-12 : (soundSpeedOf F t ρ ≡ Refused WorkNotFinite) ↔ (StableState F t ρ × (between (real 1) (rootArgument F t ρ) (real (10 ^ 8)) ≡ false))
-  unfolding soundSpeedOf soundSpeedValue
+  unfolding soundSpeedOf
   sound-speed-12 = (
     (λ r.
-        let (g, s, n) = both-granted (statePermit F t ρ) (stabilityPermit F t (workedDensity ρ)) (rootOf (rootArgument F t ρ)) (state-denied F t ρ) stability-denied r in
+        let (g, s, n) = both-granted (statePermit F t ρ) (stabilityPermit (stateAt F t (workedDensity ρ))) (rootOf (rootArgument F t ρ)) (state-denied F t ρ) stability-denied (rw sound-speed-is at r) in
         ((g, s), by (between (real 1) (rootArgument F t ρ) (real (10 ^ 8))) (λ p. absurd (subst T n (root-in-range (rootArgument F t ρ) p))) (λ p. p))),
-    (λ ((g, s), p). rw (g, s, root-outside (rootArgument F t ρ) p) refl),
+    (λ ((g, s), p). rw (sound-speed-is, g, s, root-outside (rootArgument F t ρ) p) refl),
   )
 
   -- ---- isobaric heat capacity
   abbrev firstOfQ : Float
-  firstOfQ = real 1 ⊕ real 2 ⊗ sums F t (workedDensity ρ) .s1
+  firstOfQ = real 1 ⊕ real 2 ⊗ stateAt F t (workedDensity ρ) .sums .s1
 
-  q-above : statePermit F t ρ ≡ Granted → stabilityPermit F t (workedDensity ρ) ≡ Granted → eq firstOfQ (real 0) ≡ false → T (le (two⁻ 930) (Q F t (workedDensity ρ)))
+  q-above : statePermit F t ρ ≡ Granted → stabilityPermit (stateAt F t (workedDensity ρ)) ≡ Granted → eq firstOfQ (real 0) ≡ false → T (le (two⁻ 930) (Q (stateAt F t (workedDensity ρ))))
   unfolding stabilityPermit
   q-above g s n =
-      let f = finite-where-granted F ok t ρ g in
-      let above = stable-positive («V» F t (workedDensity ρ)) (K F t (workedDensity ρ)) (Q F t (workedDensity ρ)) (f .v) (f .k) (f .q) s in
+      let f = finite-where-granted F t ρ g in
+      let above = stable-positive («V» (stateAt F t (workedDensity ρ))) (K (stateAt F t (workedDensity ρ))) (Q (stateAt F t (workedDensity ρ))) (f .v) (f .k) (f .q) s in
       unfold Q in
-      chain (two⁻ 930) (two⁻ 215) (real 1 ⊕ real 2 ⊗ sums F t (workedDensity ρ) .s1 ⊕ sums F t (workedDensity ρ) .s2) smaller
-      (q-large (real 2 ⊗ sums F t (workedDensity ρ) .s1) (sums F t (workedDensity ρ) .s2) (product-fits _ _) (unfold sums in s2-fits F (keptOf F t) _) (f .q) above n)
+      chain (two⁻ 930) (two⁻ 215) (real 1 ⊕ real 2 ⊗ stateAt F t (workedDensity ρ) .sums .s1 ⊕ stateAt F t (workedDensity ρ) .sums .s2) smaller
+      (q-large (real 2 ⊗ stateAt F t (workedDensity ρ) .sums .s1) (stateAt F t (workedDensity ρ) .sums .s2) (product-fits _ _) (unfold stateOf in s2-fits (keptOf F t) _) (f .q) above n)
 
   -- 12 only where 1 + 2·S1 is 0 and Q, which is S2 then, is above 0 and under 2⁻⁹³⁰
   pub isobaric-12 : isobaricOf F t ρ ≡ Refused WorkNotFinite → StableState F t ρ × VanishingQ F t ρ
   unfolding isobaricOf
   isobaric-12 r =
-      let (g, s, n) = both-granted (statePermit F t ρ) (stabilityPermit F t (workedDensity ρ)) (isobaricValue F t (workedDensity ρ)) (state-denied F t ρ) stability-denied r in
-      let small : le (two⁻ 930) (Q F t (workedDensity ρ)) ≡ false =
-      by (le (two⁻ 930) (Q F t (workedDensity ρ)))
-      (λ large. absurd (subst T n (finite-where-granted F ok t ρ g .isobaric (holds (le (two⁻ 930) (Q F t (workedDensity ρ))) large))))
+      let (g, s, n) = both-granted (statePermit F t ρ) (stabilityPermit (stateAt F t (workedDensity ρ))) (isobaricValue (stateAt F t (workedDensity ρ))) (state-denied F t ρ) stability-denied r in
+      let small : le (two⁻ 930) (Q (stateAt F t (workedDensity ρ))) ≡ false =
+      by (le (two⁻ 930) (Q (stateAt F t (workedDensity ρ))))
+      (λ large. absurd (subst T n (finite-where-granted F t ρ g .isobaric (holds (le (two⁻ 930) (Q (stateAt F t (workedDensity ρ)))) large))))
       (λ small. small) in
       let zero-first : eq firstOfQ (real 0) ≡ true =
       by (eq firstOfQ (real 0)) (λ z. z) (λ z. absurd (subst T small (q-above g s z))) in

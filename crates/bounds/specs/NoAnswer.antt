@@ -1,5 +1,5 @@
 -- docs/NO-ANSWER.md, "When is there no answer?", line by line: when each call refuses with 12, and what the density searches refuse
--- with; proofs/NoAnswer.antt proves it of R-245ca.
+-- with; proofs/NoAnswer.antt proves it of every fluid.
 use mathlib.Core.Path.{_≡_}
 use mathlib.Core.Logic.{_↔_}
 use mathlib.Core.List.{List, [], _∷_}
@@ -16,9 +16,10 @@ use Rattle.refusals.specs.declared.Answer.the-variants.{Refused}
 use Rattle.refusals.specs.Code.{answerCodeOf, OneOf}
 use Rattle.arithmetic.specs.Checked.{real, two⁻, minus, between, _⊕_, _⊗_, _⊘_}
 use Rattle.elementary.specs.Calls.{exponentialOf, logarithmOf, squareRootOf}
-use Rattle.fluids.specs.Fluid.{Fluid}
-use Rattle.fluids.specs.R245ca.{r245ca}
-use Rattle.values.specs.Values.{δ, sums, «V», K, Q}
+use Rattle.fluids.specs.declared.Fluid.{Fluid}
+use Rattle.fluids.specs.Entries.{entryOf}
+use Rattle.equation.specs.Kept.{stateAt}
+use Rattle.values.specs.Values.{«V», K, Q}
 use Rattle.properties.specs.Calls.{workedDensity, stabilityPermit, pressureOf, energyOf, enthalpyOf, isochoricOf, entropyOf, gibbsOf, helmholtzOf, isobaricOf, soundSpeedOf}
 use Rattle.inputs.specs.Inputs.{statePermit, potentialPermit}
 use Rattle.saturation.specs.Calls.{saturationPressureOf, saturatedLiquidOf, saturatedVapourOf}
@@ -52,19 +53,19 @@ pub record ElementaryCalls : Type 0 where
 module _ (F : Fluid) (t ρ : Float) where
   -- permitted, so in range with a density above 0, and δ under 2⁻⁶⁰
   abbrev pub SmallDensity : Type 0
-  SmallDensity = (potentialPermit F t ρ ≡ Granted) × (lt (δ F t ρ) (two⁻ 60) ≡ true)
+  SmallDensity = (potentialPermit F t ρ ≡ Granted) × (lt (stateAt F t ρ .delta) (two⁻ 60) ≡ true)
 
   -- in range, with Q > 0 and V > 0
   abbrev pub StableState : Type 0
-  StableState = (statePermit F t ρ ≡ Granted) × (stabilityPermit F t (workedDensity ρ) ≡ Granted)
+  StableState = (statePermit F t ρ ≡ Granted) × (stabilityPermit (stateAt F t (workedDensity ρ)) ≡ Granted)
 
   -- sound speed's (R·T)/M·(Q + K·K/V), the root's argument
   abbrev pub rootArgument : Float
-  rootArgument = (F .R ⊗ t) ⊘ F .M ⊗ (Q F t (workedDensity ρ) ⊕ K F t (workedDensity ρ) ⊗ K F t (workedDensity ρ) ⊘ «V» F t (workedDensity ρ))
+  rootArgument = (entryOf F .R ⊗ t) ⊘ entryOf F .M ⊗ (Q (stateAt F t (workedDensity ρ)) ⊕ K (stateAt F t (workedDensity ρ)) ⊗ K (stateAt F t (workedDensity ρ)) ⊘ «V» (stateAt F t (workedDensity ρ)))
 
   -- 1 + 2·S1 is 0, and Q, which is S2 then, lies under 2⁻⁹³⁰
   abbrev pub VanishingQ : Type 0
-  VanishingQ = (eq (real 1 ⊕ real 2 ⊗ sums F t (workedDensity ρ) .s1) (real 0) ≡ true) × (le (two⁻ 930) (Q F t (workedDensity ρ)) ≡ false)
+  VanishingQ = (eq (real 1 ⊕ real 2 ⊗ stateAt F t (workedDensity ρ) .sums .s1) (real 0) ≡ true) × (le (two⁻ 930) (Q (stateAt F t (workedDensity ρ))) ≡ false)
 
 -- the nine properties, whatever the two numbers are
 pub record PropertyCalls (F : Fluid) : Type 0 where
@@ -88,35 +89,35 @@ pub record EstimateCalls (F : Fluid) : Type 0 where
 abbrev pub Never : Refusal → Found → Type 0
 Never e f = f ≡ Found.Refused e → ⊥
 
--- the searches of R-245ca, with no proviso
-pub record SearchCalls : Type 0 where
+-- the searches, with no proviso
+pub record SearchCalls (F : Fluid) : Type 0 where
   -- a preparation never fails at a permitted T and c in lists long enough
-  pub prepared : (t : Float) (c : ℕ) (g l : List Float) → preparePermit r245ca t c (roomOf c (length g) (length l)) ≡ Granted → prepareOf t c g l ≡ Ready
+  pub prepared : (t : Float) (c : ℕ) (g l : List Float) → preparePermit F t c (roomOf c (length g) (length l)) ≡ Granted → prepareOf F t c g l ≡ Ready
   -- whatever the inputs: a plain search never ends with 9, 12 or 16
-  pub plain : (t P : Float) (c : ℕ) (side : Side) → Never NotNeighbours (plainOf t P c side) × Never WorkNotFinite (plainOf t P c side) × Never NotEnclosed (plainOf t P c side)
+  pub plain : (t P : Float) (c : ℕ) (side : Side) → Never NotNeighbours (plainOf F t P c side) × Never WorkNotFinite (plainOf F t P c side) × Never NotEnclosed (plainOf F t P c side)
   -- a quick one never with 9 or 12, and over prepared lists never with 16
-  pub quick : (t P : Float) (c : ℕ) (side : Side) (g l : List Float) → Never NotNeighbours (quickOf t P c side g l) × Never WorkNotFinite (quickOf t P c side g l)
-  pub quick-prepared : (t P : Float) (c : ℕ) (side : Side) (g l : List Float) → prepareOf t c g l ≡ Ready → Never NotEnclosed (quickOf t P c side (greatestAfter t c g l) (leastAfter t c g l))
+  pub quick : (t P : Float) (c : ℕ) (side : Side) (g l : List Float) → Never NotNeighbours (quickOf F t P c side g l) × Never WorkNotFinite (quickOf F t P c side g l)
+  pub quick-prepared : (t P : Float) (c : ℕ) (side : Side) (g l : List Float) → prepareOf F t c g l ≡ Ready → Never NotEnclosed (quickOf F t P c side (greatestAfter F t c g l) (leastAfter F t c g l))
   -- 8 comes exactly if T, P and c are permitted and, from below, no coarse cell j has p(j) ≤ P < p(j+1), from above, p(c) ≤ P
-  pub from-below : (t P : Float) (c : ℕ) → (plainOf t P c FromBelow ≡ Found.Refused NoCell) ↔ ((searchPermit r245ca t P c true ≡ Granted) × NoCellEncloses (atEnds (pressuresOf t)) P c)
-  pub from-above : (t P : Float) (c : ℕ) → (plainOf t P c FromAbove ≡ Found.Refused NoCell) ↔ ((searchPermit r245ca t P c true ≡ Granted) × (le (pressuresOf t (endStep c)) P ≡ true))
+  pub from-below : (t P : Float) (c : ℕ) → (plainOf F t P c FromBelow ≡ Found.Refused NoCell) ↔ ((searchPermit F t P c true ≡ Granted) × NoCellEncloses (atEnds (pressuresOf F t)) P c)
+  pub from-above : (t P : Float) (c : ℕ) → (plainOf F t P c FromAbove ≡ Found.Refused NoCell) ↔ ((searchPermit F t P c true ≡ Granted) × (le (pressuresOf F t (endStep c)) P ≡ true))
   -- and permitted inputs meet no other refusal
-  pub only-8 : (t P : Float) (c : ℕ) (side : Side) → searchPermit r245ca t P c true ≡ Granted → (e : Refusal) → plainOf t P c side ≡ Found.Refused e → e ≡ NoCell
+  pub only-8 : (t P : Float) (c : ℕ) (side : Side) → searchPermit F t P c true ≡ Granted → (e : Refusal) → plainOf F t P c side ≡ Found.Refused e → e ≡ NoCell
   -- an answered density encloses P
-  pub encloses : (t P : Float) (c : ℕ) (side : Side) (density : Float) (word : Word) → plainOf t P c side ≡ State density word → Answers t P c side density word
-  -- at 1,664 cells every permitted T and P gets a density, from either side
-  pub answered : (t P : Float) (side : Side) → searchPermit r245ca t P 1664 true ≡ Granted → (density : Float) × (word : Word) × (plainOf t P 1664 side ≡ State density word)
+  pub encloses : (t P : Float) (c : ℕ) (side : Side) (density : Float) (word : Word) → plainOf F t P c side ≡ State density word → Answers F t P c side density word
+  -- up to the fluid's own top every permitted T and P gets a density, from either side
+  pub answered : (t P : Float) (side : Side) → searchPermit F t P (entryOf F .topCells) true ≡ Granted → (density : Float) × (word : Word) × (plainOf F t P (entryOf F .topCells) side ≡ State density word)
 
 -- so the code of a call is one of these, whatever its inputs are
-pub record Codes : Type 0 where
-  pub pressure : (t ρ : Float) → OneOf (answerCodeOf (pressureOf r245ca t ρ)) (0 ∷ 2 ∷ 3 ∷ 4 ∷ [])
-  pub energy : (t ρ : Float) → OneOf (answerCodeOf (energyOf r245ca t ρ)) (0 ∷ 2 ∷ 3 ∷ 4 ∷ [])
-  pub enthalpy : (t ρ : Float) → OneOf (answerCodeOf (enthalpyOf r245ca t ρ)) (0 ∷ 2 ∷ 3 ∷ 4 ∷ [])
-  pub isochoric : (t ρ : Float) → OneOf (answerCodeOf (isochoricOf r245ca t ρ)) (0 ∷ 2 ∷ 3 ∷ 4 ∷ [])
-  pub saturation-pressure : (t : Float) → OneOf (answerCodeOf (saturationPressureOf r245ca t)) (0 ∷ 2 ∷ 3 ∷ 13 ∷ [])
-  pub saturated-liquid : (t : Float) → OneOf (answerCodeOf (saturatedLiquidOf r245ca t)) (0 ∷ 2 ∷ 3 ∷ 13 ∷ [])
-  pub saturated-vapour : (t : Float) → OneOf (answerCodeOf (saturatedVapourOf r245ca t)) (0 ∷ 2 ∷ 3 ∷ 13 ∷ [])
-  pub prepare : (t : Float) (c : ℕ) (g l : List Float) → OneOf (preparedCodeOf (prepareOf t c g l)) (0 ∷ 2 ∷ 3 ∷ 6 ∷ 7 ∷ [])
-  pub plain : (t P : Float) (c : ℕ) (side : Side) → OneOf (foundCodeOf (plainOf t P c side)) (0 ∷ 2 ∷ 3 ∷ 5 ∷ 6 ∷ 8 ∷ [])
-  -- with 1,664 cells
-  pub plain-to-the-top : (t P : Float) (side : Side) → OneOf (foundCodeOf (plainOf t P 1664 side)) (0 ∷ 2 ∷ 3 ∷ 5 ∷ [])
+pub record Codes (F : Fluid) : Type 0 where
+  pub pressure : (t ρ : Float) → OneOf (answerCodeOf (pressureOf F t ρ)) (0 ∷ 2 ∷ 3 ∷ 4 ∷ [])
+  pub energy : (t ρ : Float) → OneOf (answerCodeOf (energyOf F t ρ)) (0 ∷ 2 ∷ 3 ∷ 4 ∷ [])
+  pub enthalpy : (t ρ : Float) → OneOf (answerCodeOf (enthalpyOf F t ρ)) (0 ∷ 2 ∷ 3 ∷ 4 ∷ [])
+  pub isochoric : (t ρ : Float) → OneOf (answerCodeOf (isochoricOf F t ρ)) (0 ∷ 2 ∷ 3 ∷ 4 ∷ [])
+  pub saturation-pressure : (t : Float) → OneOf (answerCodeOf (saturationPressureOf F t)) (0 ∷ 2 ∷ 3 ∷ 13 ∷ [])
+  pub saturated-liquid : (t : Float) → OneOf (answerCodeOf (saturatedLiquidOf F t)) (0 ∷ 2 ∷ 3 ∷ 13 ∷ [])
+  pub saturated-vapour : (t : Float) → OneOf (answerCodeOf (saturatedVapourOf F t)) (0 ∷ 2 ∷ 3 ∷ 13 ∷ [])
+  pub prepare : (t : Float) (c : ℕ) (g l : List Float) → OneOf (preparedCodeOf (prepareOf F t c g l)) (0 ∷ 2 ∷ 3 ∷ 6 ∷ 7 ∷ [])
+  pub plain : (t P : Float) (c : ℕ) (side : Side) → OneOf (foundCodeOf (plainOf F t P c side)) (0 ∷ 2 ∷ 3 ∷ 5 ∷ 6 ∷ 8 ∷ [])
+  -- up to the fluid's own top
+  pub plain-to-the-top : (t P : Float) (side : Side) → OneOf (foundCodeOf (plainOf F t P (entryOf F .topCells) side)) (0 ∷ 2 ∷ 3 ∷ 5 ∷ [])

@@ -7,10 +7,10 @@ use Rattle.elementary.specs.Ln.{mOf, eOf, lnSteps, lnWork, lnOf}
 use Rattle.elementary.specs.Root.{rootSteps, rootOf}
 use Rattle.elementary.specs.Power.{_↑_}
 use Rattle.fluids.specs.R245ca.{r245ca}
+use Rattle.fluids.specs.Entries.{entryOf}
 use Rattle.equation.specs.Rows.{powerAt, bellAt, xAt, rowAt}
 use Rattle.equation.specs.Sums.{rowFirst, sumsFirst, rowOf, sumsTo}
-use Rattle.equation.specs.Kept.{keptOf, sumsAt, pressureAt}
-use Rattle.values.specs.Values.{pressureValue}
+use Rattle.equation.specs.Kept.{keptOf, sumsAt, stateOf, pressureValue}
 use Rattle.properties.specs.Calls.{workedDensity, pressureOf, entropyOf}
 use Rattle.inputs.specs.Inputs.{statePermit, potentialPermit}
 use Rattle.search.specs.Plain.{visitUp, cellFromBelow, visitDown, cellFromAbove}
@@ -24,8 +24,8 @@ use Rattle.cases.specs.Table.{Hold, cases}
 pub cases-hold : Hold cases
 unfolding
     expOf expWork expSteps squared within minus _▷_ _⊕_ _⊗_ _⊘_ lnOf lnWork lnSteps mOf eOf _⊖_ rootOf rootSteps
-    pressureOf statePermit workedDensity pressureValue pressureAt keptOf sumsAt sumsTo sumsFirst rowFirst rowOf
-    rowAt xAt bellAt powerAt _↑_ r245ca entropyOf potentialPermit plainOf searchPermit quickOf prepareOf
+    pressureOf statePermit workedDensity pressureValue stateOf keptOf sumsAt sumsTo sumsFirst rowFirst rowOf
+    rowAt xAt bellAt powerAt _↑_ entryOf r245ca entropyOf potentialPermit plainOf searchPermit quickOf prepareOf
     preparePermit greatestList filled someNotFinite greatest greaterOf leastList leastOfNext lesserOf cellFromBelow
     visitUp quickCell halvedPlaces enclosing cellFromAbove visitDown add sub mul div neg ofInt round ofBits toBits
     le lt eq isNan

@@ -9,7 +9,7 @@ use Rattle.refusals.specs.declared.Refusal.the-variants.{InputNotFinite, Temper
 use Rattle.refusals.specs.declared.Answer.the-variants.{Number, Refused}
 use Rattle.arithmetic.specs.Checked.{real, _e-_}
 use Rattle.elementary.specs.Calls.{exponentialOf, logarithmOf, squareRootOf}
-use Rattle.fluids.specs.R245ca.{r245ca}
+use Rattle.fluids.specs.declared.Fluid.the-variants.{R245ca}
 use Rattle.properties.specs.Calls.{pressureOf, entropyOf}
 use Rattle.search.specs.declared.Located.{Located}
 use Rattle.search.specs.declared.Located.the-variants.{At}
@@ -33,15 +33,15 @@ row {A} worked printed = record { Outcome = A; worked = worked; printed = printe
 
 -- a search at T and P, for the top counts c, from both sides and with all lists; and a preparation
 abbrev pub plainRefused : Float → Float → (ℕ → ℕ) → Refusal → Row
-plainRefused T P count r = row {A = ℕ → Side → Found} (λ c side. plainOf T P (count c) side) (λ c side. Found.Refused r)
+plainRefused T P count r = row {A = ℕ → Side → Found} (λ c side. plainOf R245ca T P (count c) side) (λ c side. Found.Refused r)
 
 abbrev pub quickRefused : Float → Float → (ℕ → ℕ) → Refusal → Row
 quickRefused T P count r =
-    row {A = ℕ → Side → List Float → List Float → Found} (λ c side g l. quickOf T P (count c) side g l) (λ c side g l. Found.Refused r)
+    row {A = ℕ → Side → List Float → List Float → Found} (λ c side g l. quickOf R245ca T P (count c) side g l) (λ c side g l. Found.Refused r)
 
 abbrev pub preparationRefused : Float → (ℕ → ℕ) → Refusal → Row
 preparationRefused T count r =
-    row {A = ℕ → List Float → List Float → Prepared} (λ c g l. prepareOf T (count c) g l) (λ c g l. Prepared.Refused r)
+    row {A = ℕ → List Float → List Float → Prepared} (λ c g l. prepareOf R245ca T (count c) g l) (λ c g l. Prepared.Refused r)
 
 -- any top count, or one
 abbrev pub any : ℕ → ℕ
@@ -87,9 +87,9 @@ cases =
     -- (c) root 65536 = 256
     ∷ row (squareRootOf (real 65536)) (Number (real 256))
     -- (d) pressure at 250 K, 0 is 0
-    ∷ row (pressureOf r245ca (real 250) (real 0)) (Number (real 0))
+    ∷ row (pressureOf R245ca (real 250) (real 0)) (Number (real 0))
     -- (e) entropy there: 10
-    ∷ row (entropyOf r245ca (real 250) (real 0)) (Refused AtZeroDensity)
+    ∷ row (entropyOf R245ca (real 250) (real 0)) (Refused AtZeroDensity)
     -- (f) T NaN, P 0: 2
     ∷ plainRefused nan (real 0) any InputNotFinite
     ∷ quickRefused nan (real 0) any InputNotFinite

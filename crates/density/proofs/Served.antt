@@ -5,31 +5,32 @@ use mathlib.Core.List.{List}
 use Prim.Native.Nat.{ℕ, _+_}
 use lib.ListN.{length, length-replicate}
 use lib.Ieee.{Float, nan}
+use Rattle.fluids.specs.declared.Fluid.{Fluid}
 use Rattle.arithmetic.specs.Checked.{real}
 use Rattle.preparation.specs.Prepare.{greatestAfter, leastAfter}
 use Rattle.density.specs.Serving.{zeros, Serves}
 use Rattle.density.proofs.PreparedAlike.{Places, places-left, prepared-alike, nan-alike}
 
-module _ (c : ℕ) where
+module _ (F : Fluid) (c : ℕ) where
   -- a number that is the same is served the same
-  pub serves-at : (T x : Float) (G L : List Float) → x ≡ T → Serves T c G L → Serves x c G L
-  serves-at T x G L e s = subst (λ (y : Float). Serves y c G L) (sym e) s
+  pub serves-at : (T x : Float) (G L : List Float) → x ≡ T → Serves F T c G L → Serves F x c G L
+  serves-at T x G L e s = subst (λ (y : Float). Serves F y c G L) (sym e) s
 
-  pub any-serve-nan : (x : Float) (G L : List Float) → x ≡ nan → length G ≡ c + 1 → length L ≡ c + 1 → Serves x c G L
-  any-serve-nan x G L e g l = serves-at nan x G L e (record { places-greatest = g; places-least = l; alike = nan-alike c G L _ _ })
+  pub any-serve-nan : (x : Float) (G L : List Float) → x ≡ nan → length G ≡ c + 1 → length L ≡ c + 1 → Serves F x c G L
+  any-serve-nan x G L e g l = serves-at nan x G L e (record { places-greatest = g; places-least = l; alike = nan-alike F c G L _ _ })
 
   zero-places : Places c (zeros c) (zeros c)
   unfolding zeros
   zero-places = record { of-greatest = length-replicate (c + 1) (real 0); of-least = length-replicate (c + 1) (real 0) }
 
-  pub prepared-serves : (kept T t : Float) (g l G L : List Float) → Serves kept c g l → t ≡ T → G ≡ greatestAfter t c g l → L ≡ leastAfter t c g l → Serves T c G L
+  pub prepared-serves : (kept T t : Float) (g l G L : List Float) → Serves F kept c g l → t ≡ T → G ≡ greatestAfter F t c g l → L ≡ leastAfter F t c g l → Serves F T c G L
   prepared-serves kept T t g l G L s e p q =
       let before : Places c g l = record { of-greatest = s .places-greatest; of-least = s .places-least } in
-      let after = places-left t c g l before in
+      let after = places-left F t c g l before in
       serves-at t T G L (sym e)
       (rw (p, q)
       (record {
         places-greatest = after .of-greatest;
         places-least = after .of-least;
-        alike = prepared-alike t c g l (zeros c) (zeros c) before zero-places;
+        alike = prepared-alike F t c g l (zeros c) (zeros c) before zero-places;
       }))

@@ -2,6 +2,7 @@
 use mathlib.Core.Path.{_≡_}
 use Prim.Native.Nat.{ℕ}
 use lib.Ieee.{Float}
+use Rattle.fluids.specs.declared.Fluid.{Fluid}
 use Rattle.search.specs.Plain.{endStep}
 use Rattle.search.specs.Enclosed.{Encloses}
 use Rattle.density.specs.declared.Side.{Side}
@@ -10,8 +11,8 @@ use Rattle.density.specs.State.{stateWordOf}
 use Rattle.steps.specs.Steps.{stepDensityOf}
 use Rattle.steps.specs.Steps.{pressuresOf}
 
-pub record Answers (t P : Float) (c : ℕ) (side : Side) (density : Float) (word : Word) : Type 0 where
+pub record Answers (F : Fluid) (t P : Float) (c : ℕ) (side : Side) (density : Float) (word : Word) : Type 0 where
   pub step : ℕ
   pub exact : density ≡ stepDensityOf step
-  pub named : word ≡ stateWordOf t side
-  pub encloses : Encloses (pressuresOf t) P (endStep c) step
+  pub named : word ≡ stateWordOf F t side
+  pub encloses : Encloses (pressuresOf F t) P (endStep c) step

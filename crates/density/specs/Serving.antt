@@ -4,6 +4,7 @@ use mathlib.Core.List.{List}
 use Prim.Native.Nat.{ℕ, _+_}
 use lib.ListN.{length, replicate}
 use lib.Ieee.{Float}
+use Rattle.fluids.specs.declared.Fluid.{Fluid}
 use Rattle.arithmetic.specs.Checked.{real}
 use Rattle.density.specs.declared.Side.{Side}
 use Rattle.preparation.specs.Prepare.{greatestAfter, leastAfter}
@@ -13,14 +14,14 @@ use Rattle.density.specs.Calls.{quickOf}
 unfoldable pub zeros : ℕ → List Float
 zeros c = replicate (c + 1) (real 0)
 
-abbrev pub greatestAt : Float → ℕ → List Float
-greatestAt T c = greatestAfter T c (zeros c) (zeros c)
+abbrev pub greatestAt : Fluid → Float → ℕ → List Float
+greatestAt F T c = greatestAfter F T c (zeros c) (zeros c)
 
-abbrev pub leastAt : Float → ℕ → List Float
-leastAt T c = leastAfter T c (zeros c) (zeros c)
+abbrev pub leastAt : Fluid → Float → ℕ → List Float
+leastAt F T c = leastAfter F T c (zeros c) (zeros c)
 
 -- two lists of c + 1 places over which each quick search at T ends as over the lists prepared for T
-pub record Serves (T : Float) (c : ℕ) (G L : List Float) : Type 0 where
+pub record Serves (F : Fluid) (T : Float) (c : ℕ) (G L : List Float) : Type 0 where
   pub places-greatest : length G ≡ c + 1
   pub places-least : length L ≡ c + 1
-  pub alike : (P : Float) (side : Side) → quickOf T P c side G L ≡ quickOf T P c side (greatestAt T c) (leastAt T c)
+  pub alike : (P : Float) (side : Side) → quickOf F T P c side G L ≡ quickOf F T P c side (greatestAt F T c) (leastAt F T c)

@@ -7,7 +7,7 @@ use lib.Ieee.{Float}
 use Rattle.arithmetic.proofs.Operations.{⊕-squashed}
 use Rattle.arithmetic.proofs.Literals.{squash-0}
 use Rattle.fluids.specs.declared.Term.{Term}
-use Rattle.fluids.specs.Fluid.{Fluid}
+use Rattle.fluids.specs.Entries.{entryOf}
 use Rattle.equation.specs.declared.kept.Kept.{Kept}
 use Rattle.equation.specs.declared.rows.Row.{Row}
 use Rattle.equation.specs.declared.sums.Sums.{Sums}
@@ -30,6 +30,6 @@ module _ (δ τ : Float) (rows : List Term) (powers bells : List Float) where
       let next = sums-next δ τ rows powers bells i in
       ap squashSums (sym next) ∙ added-squashed _ _ ∙ next
 
-pub sums-squashed : (F : Fluid) (k : Kept) (δ : Float) → squashSums (sumsAt F k δ) ≡ sumsAt F k δ
+pub sums-squashed : (k : Kept) (δ : Float) → squashSums (sumsAt k δ) ≡ sumsAt k δ
 unfolding sumsAt
-sums-squashed F k δ = sums-to-squashed _ _ (F .rows) _ _ (length (F .rows))
+sums-squashed k δ = sums-to-squashed _ _ (entryOf (k .fluid) .rows) _ _ (length (entryOf (k .fluid) .rows))

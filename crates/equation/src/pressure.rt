@@ -3,14 +3,14 @@ use crate::kept::Kept;
 use crate::sums::summed;
 use arithmetic::squash;
 ghost use mathlib.Core.Path.{_≡_};
-ghost use Rattle.fluids.specs.R245ca.{r245ca};
 ghost use Rattle.equation.specs.Kept.{pressureAt};
 
 // The pressure at a density, Pa, for the temperature that is kept; one NaN where 12 is owed.
 pub fn pressure_at(kept: Kept, rho: f64) -> f64
-    ensures { λ r. ⌜ r ≡ pressureAt r245ca kept rho ⌝ }
+    ensures { λ r. ⌜ r ≡ pressureAt kept rho ⌝ }
 {
-    let numbers = fluids::single_numbers();
+    let fluid = kept.fluid;
+    let numbers = fluids::single_numbers(fluid);
     let gas = numbers.gas;
     let t = kept.t;
     let delta = rho / numbers.critical_density;

@@ -6,7 +6,7 @@ use lib.ListN.{getD, List·getD-map}
 use lib.Ieee.{Float, nan, mul, add, div, neg, le, lt, eq, ofInt, round}
 use Rattle.arithmetic.specs.Checked.{squash, real, two⁻, within, minus, _▷_, _⊕_, _⊗_, _⊘_}
 use Rattle.exponentials.specs.Exp.{expSteps, squared, expWork, expOf}
-use Rattle.arithmetic.proofs.Operations.{⊗-squash-left}
+use Rattle.arithmetic.proofs.Operations.{⊗-left}
 use Rattle.arithmetic.proofs.Forced.{forced}
 use Rattle.arithmetic.proofs.Within.{within-after}
 use Rattle.exponentials.proofs.Literals.{squash-two⁻10}
@@ -20,7 +20,7 @@ work-nan = refl
 
 work-squash : (x : Float) → work (squash x) ≡ expWork x
 unfolding work expWork
-work-squash x = simp (forced, ⊗-squash-left x (two⁻ 10) squash-two⁻10)
+work-squash x = simp (forced, ⊗-left)
 
 work-in : (lo hi x : Float) → work (squash (within lo hi x x)) ≡ within lo hi x (expWork x)
 work-in lo hi x = within-after lo hi x x (λ (g : Float). work (squash g)) work-nan ∙ ap (within lo hi x) (work-squash x)

@@ -1,3 +1,3 @@
 mod Pairs
-mod Total
+mod Turn
 pub mod Settled

@@ -1,22 +1,29 @@
--- A pair of the table has finite numbers: what is read of a copy of the table is the table's own.
+-- A pair of a fluid's table has finite numbers.
 use mathlib.Core.Path.{_≡_, sym, _∙_, ap, subst}
 use mathlib.Core.List.{List}
 use Prim.Native.Nat.{ℕ, _<_}
-use lib.ListN.{getD}
+use lib.Dec.{T}
+use lib.ListN.{length, getD}
 use lib.Ieee.{nan}
 use Rattle.fluids.specs.declared.Pair.{Pair}
-use Rattle.fluids.specs.R245ca.{r245ca}
-use Rattle.fluids.proofs.Sound.{every-at, any-default, r245ca-sound, r245ca-pairs, finitePair, pair-finite}
+use Rattle.fluids.specs.declared.Fluid.{Fluid}
+use Rattle.fluids.specs.Entries.{entryOf}
+use Rattle.fluids.proofs.Sound.{every, every-at, any-default, finitePair, pair-finite, sound}
 use Rattle.fluids.specs.Finite.{FinitePair}
 
 -- what a list of pairs has where it has nothing
 abbrev pub noPair : Pair
 noPair = record { v = nan; u = nan }
 
-pub read-pair : (ps : List Pair) (d : Pair) (i : ℕ) → ps ≡ r245ca .pairs → i < 3 → getD ps i d ≡ getD (r245ca .pairs) i noPair
-read-pair ps d i e h = ap (λ (l : List Pair). getD l i d) e ∙ any-default (r245ca .pairs) i d noPair (rw r245ca-pairs h)
+-- what is read of a copy of the table
+module _ (F : Fluid) (ps : List Pair) (e : ps ≡ entryOf F .pairs) where
+  three : length ps ≡ 3
+  three = ap length e ∙ sound F .three
 
-pub read-pair-finite : (ps : List Pair) (d : Pair) (i : ℕ) → ps ≡ r245ca .pairs → i < 3 → FinitePair (getD ps i d)
-read-pair-finite ps d i e h =
-    subst FinitePair (sym (read-pair ps d i e h))
-    (pair-finite (getD (r245ca .pairs) i noPair) (every-at finitePair (r245ca .pairs) noPair (r245ca-sound .pairs) i (rw r245ca-pairs h)))
+  pub read-pair : (d : Pair) (i : ℕ) → i < 3 → getD ps i d ≡ getD ps i noPair
+  read-pair d i h = any-default ps i d noPair (rw three h)
+
+  pub read-pair-finite : (d : Pair) (i : ℕ) → i < 3 → FinitePair (getD ps i d)
+  read-pair-finite d i h =
+      pair-finite (getD ps i d)
+      (every-at finitePair ps d (subst (λ (l : List Pair). T (every finitePair l)) (sym e) (sound F .pairs)) i (rw three h))

@@ -3,7 +3,7 @@ use mathlib.Core.Path.{_≡_}
 use lib.Ieee.{Float}
 use Rattle.arithmetic.specs.Checked.{squash}
 use Rattle.arithmetic.proofs.Operations.{⊕-squashed}
-use Rattle.fluids.specs.Fluid.{Fluid}
+use Rattle.fluids.specs.declared.Fluid.{Fluid}
 use Rattle.ideal.specs.Ideal.{I0, I1, I2}
 
 module _ (F : Fluid) (T : Float) where

@@ -7,7 +7,10 @@ use Rattle.arithmetic.specs.Checked.{real, minus, _▷_, _⊕_, _⊖_, _⊗_, _
 use Rattle.exponentials.specs.Exp.{expOf}
 use Rattle.elementary.specs.Ln.{lnOf}
 use Rattle.fluids.specs.declared.Pair.{Pair}
-use Rattle.fluids.specs.Fluid.{Fluid}
+use Rattle.fluids.specs.declared.Fluid.{Fluid}
+use Rattle.fluids.specs.Entries.{entryOf}
+use Rattle.ideal.specs.declared.Part.{Part}
+use Rattle.ideal.specs.declared.Part.the-variants.{OfI0, OfI1, OfI2}
 
 -- v·ln(1 − exp(−b))
 unfoldable pub part0 : Float → Pair → Float
@@ -26,18 +29,25 @@ unfoldable pub totalTo : (Pair → Float) → List Pair → ℕ → Float
 totalTo part pairs zero = real 0
 totalTo part pairs (suc i) = totalTo part pairs i ▷ λ s. s ⊕ part (getD pairs i (record { v = nan; u = nan }))
 
+-- what each of the three sums adds of a pair
+abbrev pub partOf : Part → Float → Pair → Float
+partOf OfI0 = part0
+partOf OfI1 = part1
+partOf OfI2 = part2
+
 module _ (F : Fluid) (T : Float) where
-  abbrev total : (Float → Pair → Float) → Float
-  total part = totalTo (part T) (F .pairs) (length (F .pairs))
+  -- Σ over the fluid's pairs
+  unfoldable pub totalOf : Part → Float
+  totalOf part = totalTo (partOf part T) (entryOf F .pairs) (length (entryOf F .pairs))
 
   -- a1 + a2·τ + ln δ + (c0−1)·ln τ + Σ v·ln(1 − exp(−b)); y is ln τ
   unfoldable pub I0 : Float → Float → Float → Float
-  I0 τ y δ = F .a1 ⊕ F .a2 ⊗ τ ⊕ lnOf δ ⊕ (F .c0 ⊖ real 1) ⊗ y ⊕ total part0
+  I0 τ y δ = entryOf F .a1 ⊕ entryOf F .a2 ⊗ τ ⊕ lnOf δ ⊕ (entryOf F .c0 ⊖ real 1) ⊗ y ⊕ totalOf OfI0
 
   -- a2·τ + (c0−1) + Σ v·b/(w−1)
   unfoldable pub I1 : Float → Float
-  I1 τ = F .a2 ⊗ τ ⊕ (F .c0 ⊖ real 1) ⊕ total part1
+  I1 τ = entryOf F .a2 ⊗ τ ⊕ (entryOf F .c0 ⊖ real 1) ⊕ totalOf OfI1
 
   -- (c0−1) + Σ v·b·b·w/((w−1)·(w−1))
   unfoldable pub I2 : Float
-  I2 = (F .c0 ⊖ real 1) ⊕ total part2
+  I2 = (entryOf F .c0 ⊖ real 1) ⊕ totalOf OfI2

@@ -3,12 +3,19 @@ use arithmetic::over;
 use arithmetic::squash;
 use elementary::ln;
 use exponentials::exp;
+use fluids::Fluid;
 use fluids::Pair;
 ghost use mathlib.Core.Path.{_≡_};
 ghost use Rattle.arithmetic.specs.Checked.{squash as squashOf};
-ghost use Rattle.fluids.specs.R245ca.{r245ca};
 ghost use Rattle.fluids.specs.Finite.{FinitePair};
-ghost use Rattle.ideal.specs.Ideal.{part0 as part0Of, part1 as part1Of, part2 as part2Of, totalTo, I0, I1, I2};
+ghost use Rattle.ideal.specs.Ideal.{part0 as part0Of, part1 as part1Of, part2 as part2Of, partOf, totalOf, I0, I1, I2};
+
+// The three sums over the pairs, by the part of 01 that each is in.
+enum Part {
+    OfI0,
+    OfI1,
+    OfI2,
+}
 
 // v·ln(1 − exp(−b)).
 fn part0(t: f64, pair: Pair) -> f64
@@ -46,71 +53,58 @@ fn part2(t: f64, pair: Pair) -> f64
     over(v * b * b * w, (w - 1.0) * (w - 1.0))
 }
 
-fn total0(t: f64) -> f64
-    ensures { λ r. ⌜ squashOf r ≡ totalTo (part0Of t) (r245ca .pairs) 3 ⌝ }
+// What a sum over the pairs adds of each.
+fn part_of(part: Part, t: f64, pair: Pair) -> f64
+    requires { ⌜ FinitePair pair ⌝ }
+    ensures { λ r. ⌜ squashOf r ≡ partOf part t pair ⌝ }
 {
-    let pairs = fluids::pairs();
-    let mut s = 0.0;
-    let mut i: usize = 0;
-    while i < 3 {
-        s = s + part0(t, pairs[i]);
-        i += 1;
+    match part {
+        Part::OfI0 => part0(t, pair),
+        Part::OfI1 => part1(t, pair),
+        Part::OfI2 => part2(t, pair),
     }
-    s
 }
 
-fn total1(t: f64) -> f64
-    ensures { λ r. ⌜ squashOf r ≡ totalTo (part1Of t) (r245ca .pairs) 3 ⌝ }
+// The sum over the pairs.
+fn total(fluid: Fluid, part: Part, t: f64) -> f64
+    ensures { λ r. ⌜ squashOf r ≡ totalOf fluid t part ⌝ }
 {
-    let pairs = fluids::pairs();
+    let pairs = fluids::pairs(fluid);
     let mut s = 0.0;
     let mut i: usize = 0;
     while i < 3 {
-        s = s + part1(t, pairs[i]);
-        i += 1;
-    }
-    s
-}
-
-fn total2(t: f64) -> f64
-    ensures { λ r. ⌜ squashOf r ≡ totalTo (part2Of t) (r245ca .pairs) 3 ⌝ }
-{
-    let pairs = fluids::pairs();
-    let mut s = 0.0;
-    let mut i: usize = 0;
-    while i < 3 {
-        s = s + part2(t, pairs[i]);
+        s = s + part_of(part, t, pairs[i]);
         i += 1;
     }
     s
 }
 
 // a1 + a2·τ + ln δ + (c0−1)·ln τ + Σ v·ln(1 − exp(−b)); y is ln τ.
-pub fn i0(t: f64, tau: f64, y: f64, delta: f64) -> f64
-    ensures { λ r. ⌜ r ≡ I0 r245ca t (squashOf tau) (squashOf y) (squashOf delta) ⌝ }
+pub fn i0(fluid: Fluid, t: f64, tau: f64, y: f64, delta: f64) -> f64
+    ensures { λ r. ⌜ r ≡ I0 fluid t tau y delta ⌝ }
 {
-    let numbers = fluids::single_numbers();
+    let numbers = fluids::single_numbers(fluid);
     let a1 = numbers.a1;
     let a2 = numbers.a2;
     let c0 = numbers.c0;
-    squash(a1 + a2 * tau + ln(delta) + (c0 - 1.0) * y + total0(t))
+    squash(a1 + a2 * tau + ln(delta) + (c0 - 1.0) * y + total(fluid, Part::OfI0, t))
 }
 
 // a2·τ + (c0−1) + Σ v·b/(w−1).
-pub fn i1(t: f64, tau: f64) -> f64
-    ensures { λ r. ⌜ r ≡ I1 r245ca t (squashOf tau) ⌝ }
+pub fn i1(fluid: Fluid, t: f64, tau: f64) -> f64
+    ensures { λ r. ⌜ r ≡ I1 fluid t tau ⌝ }
 {
-    let numbers = fluids::single_numbers();
+    let numbers = fluids::single_numbers(fluid);
     let a2 = numbers.a2;
     let c0 = numbers.c0;
-    squash(a2 * tau + (c0 - 1.0) + total1(t))
+    squash(a2 * tau + (c0 - 1.0) + total(fluid, Part::OfI1, t))
 }
 
 // (c0−1) + Σ v·b·b·w/((w−1)·(w−1)).
-pub fn i2(t: f64) -> f64
-    ensures { λ r. ⌜ r ≡ I2 r245ca t ⌝ }
+pub fn i2(fluid: Fluid, t: f64) -> f64
+    ensures { λ r. ⌜ r ≡ I2 fluid t ⌝ }
 {
-    let numbers = fluids::single_numbers();
+    let numbers = fluids::single_numbers(fluid);
     let c0 = numbers.c0;
-    squash((c0 - 1.0) + total2(t))
+    squash((c0 - 1.0) + total(fluid, Part::OfI2, t))
 }

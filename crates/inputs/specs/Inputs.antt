@@ -11,7 +11,8 @@ use Rattle.refusals.specs.declared.Refusal.the-variants.{InputNotFinite, Temper
 use Rattle.refusals.specs.declared.Permit.{Permit}
 use Rattle.refusals.specs.Order.{firstOf}
 use Rattle.arithmetic.specs.Checked.{real, between}
-use Rattle.fluids.specs.Fluid.{Fluid}
+use Rattle.fluids.specs.declared.Fluid.{Fluid}
+use Rattle.fluids.specs.Entries.{entryOf}
 
 -- ---- single tests
 
@@ -21,17 +22,17 @@ roomOf c n m = ltb c n && ltb c m
 
 module _ (F : Fluid) where
   abbrev pub temperatureTest : Float → Bool × Refusal
-  temperatureTest T = (between (F .leastT) T (F .greatestT), TemperatureOutside)
+  temperatureTest T = (between (entryOf F .leastT) T (entryOf F .greatestT), TemperatureOutside)
 
   abbrev pub densityTest : Float → Bool × Refusal
-  densityTest ρ = (between (real 0) ρ (F .greatestρ), DensityOutside)
+  densityTest ρ = (between (real 0) ρ (entryOf F .greatestρ), DensityOutside)
 
   abbrev pub pressureTest : Float → Bool × Refusal
-  pressureTest P = (between (F .leastP) P (F .greatestP), PressureOutside)
+  pressureTest P = (between (entryOf F .leastP) P (entryOf F .greatestP), PressureOutside)
 
   -- the top cell count c in 1 .. the fluid's top
   abbrev pub topTest : ℕ → Bool × Refusal
-  topTest c = (leb 1 c && leb c (F .topCells), TopOutside)
+  topTest c = (leb 1 c && leb c (entryOf F .topCells), TopOutside)
 
   -- 2 and 3, with which every call begins; whether its numbers are finite
   abbrev pub beginning : Bool → Float → List (Bool × Refusal)
@@ -53,7 +54,7 @@ module _ (F : Fluid) (T : Float) where
 
   -- a saturation estimate: 2, 3, 13
   abbrev pub saturationTests : List (Bool × Refusal)
-  saturationTests = beginning F (finite T) T ++ ((le T (F .Tc), AboveCritical) ∷ [])
+  saturationTests = beginning F (finite T) T ++ ((le T (entryOf F .Tc), AboveCritical) ∷ [])
 
   -- a pressure that is asked for: 2, 3, 5
   abbrev pub askedTests : Float → List (Bool × Refusal)

@@ -1,51 +1,52 @@
-// The tests of the inputs of every call, in 01's order: 2, 3, 4, 5, 6, 7, 13, 10.
+// The tests of the inputs of every call on a fluid, in 01's order: 2, 3, 4, 5, 6, 7, 13, 10.
 //
 // Each function gives the permit, or the first refusal that applies.
 use arithmetic::between;
 use arithmetic::both_finite;
 use arithmetic::finite;
+use fluids::Fluid;
 use refusals::Permit;
 use refusals::Refusal;
 use refusals::tested;
 ghost use mathlib.Core.Path.{_≡_};
-ghost use Rattle.fluids.specs.R245ca.{r245ca};
 ghost use Rattle.inputs.specs.Inputs as Inputs;
 
 // T in its range, in K.
-fn temperature_permitted(t: f64) -> bool
-    ensures { λ r. ⌜ r ≡ Inputs.temperatureTest r245ca t .0 ⌝ }
+fn temperature_permitted(fluid: Fluid, t: f64) -> bool
+    ensures { λ r. ⌜ r ≡ Inputs.temperatureTest fluid t .0 ⌝ }
 {
-    let numbers = fluids::single_numbers();
+    let numbers = fluids::single_numbers(fluid);
     let least = numbers.least_temperature;
     let greatest = numbers.greatest_temperature;
     between(least, t, greatest)
 }
 
 // ρ in its range, in mol/dm³.
-fn density_permitted(rho: f64) -> bool
-    ensures { λ r. ⌜ r ≡ Inputs.densityTest r245ca rho .0 ⌝ }
+fn density_permitted(fluid: Fluid, rho: f64) -> bool
+    ensures { λ r. ⌜ r ≡ Inputs.densityTest fluid rho .0 ⌝ }
 {
-    let numbers = fluids::single_numbers();
+    let numbers = fluids::single_numbers(fluid);
     let greatest = numbers.greatest_density;
     between(0.0, rho, greatest)
 }
 
 // P in its range, in Pa.
-fn pressure_permitted(p: f64) -> bool
-    ensures { λ r. ⌜ r ≡ Inputs.pressureTest r245ca p .0 ⌝ }
+fn pressure_permitted(fluid: Fluid, p: f64) -> bool
+    ensures { λ r. ⌜ r ≡ Inputs.pressureTest fluid p .0 ⌝ }
 {
-    let numbers = fluids::single_numbers();
+    let numbers = fluids::single_numbers(fluid);
     let least = numbers.least_pressure;
     let greatest = numbers.greatest_pressure;
     between(least, p, greatest)
 }
 
 // The top cell count c in its range.
-fn top_permitted(c: usize) -> bool
-    ensures { λ r. ⌜ r ≡ Inputs.topTest r245ca c .0 ⌝ }
+fn top_permitted(fluid: Fluid, c: usize) -> bool
+    ensures { λ r. ⌜ r ≡ Inputs.topTest fluid c .0 ⌝ }
 {
+    let numbers = fluids::single_numbers(fluid);
     if 1 <= c {
-        return c <= 1664;
+        return c <= numbers.top_cells;
     }
     false
 }
@@ -61,67 +62,67 @@ pub fn room(c: usize, n: usize, m: usize) -> bool
 }
 
 // 2 and 3, with whether the input numbers are finite.
-fn temperature_inputs(numbers: bool, t: f64) -> Permit
-    ensures { λ r. ⌜ r ≡ Inputs.temperaturePermit r245ca numbers t ⌝ }
+fn temperature_inputs(fluid: Fluid, numbers: bool, t: f64) -> Permit
+    ensures { λ r. ⌜ r ≡ Inputs.temperaturePermit fluid numbers t ⌝ }
 {
     let first = tested(Permit::Granted, numbers, Refusal::InputNotFinite);
-    let temperature = temperature_permitted(t);
+    let temperature = temperature_permitted(fluid, t);
     tested(first, temperature, Refusal::TemperatureOutside)
 }
 
 // A state: 2, 3, 4.
-pub fn state_inputs(t: f64, rho: f64) -> Permit
-    ensures { λ r. ⌜ r ≡ Inputs.statePermit r245ca t rho ⌝ }
+pub fn state_inputs(fluid: Fluid, t: f64, rho: f64) -> Permit
+    ensures { λ r. ⌜ r ≡ Inputs.statePermit fluid t rho ⌝ }
 {
-    let before = temperature_inputs(both_finite(t, rho), t);
-    let density = density_permitted(rho);
+    let before = temperature_inputs(fluid, both_finite(t, rho), t);
+    let density = density_permitted(fluid, rho);
     tested(before, density, Refusal::DensityOutside)
 }
 
 // A state for entropy, Gibbs or Helmholtz energy: 2, 3, 4, 10.
-pub fn potential_inputs(t: f64, rho: f64) -> Permit
-    ensures { λ r. ⌜ r ≡ Inputs.potentialPermit r245ca t rho ⌝ }
+pub fn potential_inputs(fluid: Fluid, t: f64, rho: f64) -> Permit
+    ensures { λ r. ⌜ r ≡ Inputs.potentialPermit fluid t rho ⌝ }
 {
-    let before = state_inputs(t, rho);
+    let before = state_inputs(fluid, t, rho);
     let empty = rho == 0.0;
     tested(before, !empty, Refusal::AtZeroDensity)
 }
 
 // A saturation estimate: 2, 3, 13.
-pub fn saturation_inputs(t: f64) -> Permit
-    ensures { λ r. ⌜ r ≡ Inputs.saturationPermit r245ca t ⌝ }
+pub fn saturation_inputs(fluid: Fluid, t: f64) -> Permit
+    ensures { λ r. ⌜ r ≡ Inputs.saturationPermit fluid t ⌝ }
 {
-    let before = temperature_inputs(finite(t), t);
-    let numbers = fluids::single_numbers();
+    let before = temperature_inputs(fluid, finite(t), t);
+    let numbers = fluids::single_numbers(fluid);
     let critical = numbers.critical_temperature;
     tested(before, t <= critical, Refusal::AboveCritical)
 }
 
 // A pressure that is asked for: 2, 3, 5.
-pub fn asked_inputs(t: f64, p: f64) -> Permit
-    ensures { λ r. ⌜ r ≡ Inputs.askedPermit r245ca t p ⌝ }
+pub fn asked_inputs(fluid: Fluid, t: f64, p: f64) -> Permit
+    ensures { λ r. ⌜ r ≡ Inputs.askedPermit fluid t p ⌝ }
 {
-    let before = temperature_inputs(both_finite(t, p), t);
-    let pressure = pressure_permitted(p);
+    let before = temperature_inputs(fluid, both_finite(t, p), t);
+    let pressure = pressure_permitted(fluid, p);
     tested(before, pressure, Refusal::PressureOutside)
 }
 
 // A search for p at t: 2, 3, 5, 6, 7.
-pub fn search_inputs(t: f64, p: f64, c: usize, room: bool) -> Permit
-    ensures { λ r. ⌜ r ≡ Inputs.searchPermit r245ca t p c room ⌝ }
+pub fn search_inputs(fluid: Fluid, t: f64, p: f64, c: usize, room: bool) -> Permit
+    ensures { λ r. ⌜ r ≡ Inputs.searchPermit fluid t p c room ⌝ }
 {
-    let before = asked_inputs(t, p);
-    let top = top_permitted(c);
+    let before = asked_inputs(fluid, t, p);
+    let top = top_permitted(fluid, c);
     let cells = tested(before, top, Refusal::TopOutside);
     tested(cells, room, Refusal::TooShort)
 }
 
 // A preparation at t: 2, 3, 6, 7.
-pub fn prepare_inputs(t: f64, c: usize, room: bool) -> Permit
-    ensures { λ r. ⌜ r ≡ Inputs.preparePermit r245ca t c room ⌝ }
+pub fn prepare_inputs(fluid: Fluid, t: f64, c: usize, room: bool) -> Permit
+    ensures { λ r. ⌜ r ≡ Inputs.preparePermit fluid t c room ⌝ }
 {
-    let before = temperature_inputs(finite(t), t);
-    let top = top_permitted(c);
+    let before = temperature_inputs(fluid, finite(t), t);
+    let top = top_permitted(fluid, c);
     let cells = tested(before, top, Refusal::TopOutside);
     tested(cells, room, Refusal::TooShort)
 }

@@ -5,6 +5,7 @@ use mathlib.Core.List.{List}
 use Prim.Native.Nat.{ℕ, _+_, _*_}
 use native.Mathlib.Numerals.{add-one}
 use lib.Ieee.{Float}
+use Rattle.fluids.specs.declared.Fluid.the-variants.{R245ca}
 use Rattle.arithmetic.specs.Checked.{real}
 use Rattle.density.specs.declared.Side.{Side}
 use Rattle.density.specs.declared.Side.the-variants.{FromBelow, FromAbove}
@@ -12,7 +13,7 @@ use Rattle.density.specs.declared.Found.{Found}
 use Rattle.density.specs.Calls.{plainOf, quickOf}
 use Rattle.isotherm.specs.Pairs.{sameOf, differsAt, differing}
 
-module _ (t P : Float) (c : ℕ) (side : Side) (G L : List Float) (a b : Found) (same : Bool) (p : a ≡ plainOf t P c side) (q : b ≡ quickOf t P c side G L) (s : same ≡ sameOf a b) where
+module _ (t P : Float) (c : ℕ) (side : Side) (G L : List Float) (a b : Found) (same : Bool) (p : a ≡ plainOf R245ca t P c side) (q : b ≡ quickOf R245ca t P c side G L) (s : same ≡ sameOf a b) where
   pub same-counts-0 : same ≡ true → 0 ≡ differsAt t P c side G L
   unfolding differsAt
   same-counts-0 e = rw (← p, ← q, ← s, e)

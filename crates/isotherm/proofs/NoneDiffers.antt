@@ -6,6 +6,7 @@ use mathlib.Core.List.{List}
 use Prim.Native.Nat.{ℕ, zero, suc, _*_}
 use borrow.Author.Tests.{eq-eqb}
 use lib.Ieee.{Float}
+use Rattle.fluids.specs.declared.Fluid.the-variants.{R245ca}
 use Rattle.arithmetic.specs.Checked.{real}
 use Rattle.density.specs.declared.Side.{Side}
 use Rattle.density.specs.declared.Side.the-variants.{FromBelow, FromAbove}
@@ -26,12 +27,12 @@ same-as-itself a =
       eq-eqb (foundWordOf a) (foundWordOf a) refl,
     )
 
-module _ (t : Float) (c : ℕ) (g₀ l₀ : List Float) (ready : prepareOf t c g₀ l₀ ≡ Ready) where
-  none-at : (P : Float) (side : Side) → differsAt t P c side (greatestAfter t c g₀ l₀) (leastAfter t c g₀ l₀) ≡ 0
+module _ (t : Float) (c : ℕ) (g₀ l₀ : List Float) (ready : prepareOf R245ca t c g₀ l₀ ≡ Ready) where
+  none-at : (P : Float) (side : Side) → differsAt t P c side (greatestAfter R245ca t c g₀ l₀) (leastAfter R245ca t c g₀ l₀) ≡ 0
   unfolding differsAt
-  none-at P side = rw (quick-is-plain t c g₀ l₀ ready P side, same-as-itself)
+  none-at P side = rw (quick-is-plain R245ca t c g₀ l₀ ready P side, same-as-itself)
 
-  pub none-differs : (n : ℕ) → differing t c (greatestAfter t c g₀ l₀) (leastAfter t c g₀ l₀) n ≡ 0
+  pub none-differs : (n : ℕ) → differing t c (greatestAfter R245ca t c g₀ l₀) (leastAfter R245ca t c g₀ l₀) n ≡ 0
   unfolding differing
   none-differs zero = refl
   none-differs (suc n) = simp (none-differs n, none-at (real (100000 * suc n)) FromBelow, none-at (real (100000 * suc n)) FromAbove)

@@ -4,6 +4,7 @@ use mathlib.Core.List.{List}
 use Prim.Native.Nat.{ℕ, zero, suc, _+_, _*_}
 use lib.Dec.{eqb}
 use lib.Ieee.{Float}
+use Rattle.fluids.specs.declared.Fluid.the-variants.{R245ca}
 use Rattle.arithmetic.specs.Checked.{real}
 use Rattle.density.specs.declared.Side.{Side}
 use Rattle.density.specs.declared.Side.the-variants.{FromBelow, FromAbove}
@@ -18,7 +19,7 @@ sameOf a b = eqb (foundCodeOf a) (foundCodeOf b) && eqb (foundBitsOf a) (foundBi
 
 -- 1 where the pair of answers at T and P from one side differs, else 0
 unfoldable pub differsAt : Float → Float → ℕ → Side → List Float → List Float → ℕ
-differsAt T P c side G L = cond (sameOf (plainOf T P c side) (quickOf T P c side G L)) 0 1
+differsAt T P c side G L = cond (sameOf (plainOf R245ca T P c side) (quickOf R245ca T P c side G L)) 0 1
 
 -- how many pairs differ, from both sides, at the first n multiples of 100,000 Pa
 unfoldable pub differing : Float → ℕ → List Float → List Float → ℕ → ℕ

@@ -10,7 +10,8 @@ use Rattle.refusals.specs.declared.Answer.the-variants.{Number, Refused}
 use Rattle.refusals.specs.Code.{answerCodeOf}
 use Rattle.records.specs.declared.Record.{Record}
 use Rattle.records.specs.declared.Record.the-variants.{Numbers, NoReading, Unknown, Cut}
-use Rattle.records.specs.Record.{recordOf, answerOf}
+use Rattle.records.specs.Record.{recordOf}
+use Rattle.questions.specs.Asked.{answerOf}
 use Rattle.lines.specs.Text.{decimalOf}
 use Rattle.lines.specs.Lines.{markOf, markText, dashes, bitsText, spaced, answerText, lineOf}
 use Rattle.lines.proofs.Digits.{digits-length, decimal-small}

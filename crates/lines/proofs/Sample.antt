@@ -9,14 +9,15 @@ use Rattle.exponentials.specs.Exp.{expSteps, squared, expWork, expOf}
 use Rattle.elementary.specs.Ln.{mOf, eOf, lnSteps, lnWork, lnOf}
 use Rattle.elementary.specs.Power.{_↑_}
 use Rattle.fluids.specs.R245ca.{r245ca}
+use Rattle.fluids.specs.Entries.{entryOf}
 use Rattle.equation.specs.Rows.{powerAt, bellAt, xAt, rowAt}
 use Rattle.equation.specs.Sums.{rowFirst, sumsFirst, rowOf, sumsTo}
-use Rattle.equation.specs.Kept.{keptOf, sumsAt, pressureAt}
-use Rattle.values.specs.Values.{pressureValue}
+use Rattle.equation.specs.Kept.{keptOf, sumsAt, stateOf, pressureValue}
 use Rattle.properties.specs.Calls.{workedDensity, pressureOf}
 use Rattle.inputs.specs.Inputs.{statePermit}
 use Rattle.lines.specs.Letters.{bytes}
-use Rattle.records.specs.Record.{numbersOf, recordOf, questionOf, answerOf}
+use Rattle.records.specs.Record.{numbersOf, recordOf}
+use Rattle.questions.specs.Asked.{questionOf, answerOf}
 use Rattle.records.specs.Run.{recordAt}
 use Rattle.lines.specs.Text.{glyphOf, digitsOf, widthOf, decimalOf}
 use Rattle.lines.specs.Lines.{headerText, markText, dashes, answerText, lineOf, linesUpTo, linesOf, textOf}
@@ -44,7 +45,7 @@ pub sample-printed :
 unfolding
     textOf headerText linesOf linesUpTo recordAt lineOf markText answerText dashes decimalOf widthOf digitsOf glyphOf
     answerOf questionOf recordOf numbersOf bytesOf
-    pressureOf statePermit workedDensity pressureValue pressureAt keptOf sumsAt sumsTo sumsFirst rowFirst rowOf rowAt xAt bellAt
-    powerAt _↑_ r245ca lnOf lnWork lnSteps mOf eOf expOf expWork expSteps squared within minus _▷_ _⊕_ _⊖_ _⊗_
+    pressureOf statePermit workedDensity pressureValue stateOf keptOf sumsAt sumsTo sumsFirst rowFirst rowOf rowAt xAt bellAt
+    powerAt _↑_ entryOf r245ca lnOf lnWork lnSteps mOf eOf expOf expWork expSteps squared within minus _▷_ _⊕_ _⊖_ _⊗_
     _⊘_ add sub mul div neg ofInt round ofBits toBits le lt eq
 sample-printed = refl

@@ -13,7 +13,8 @@ use Rattle.words.specs.Word.{byteAt}
 use Rattle.records.specs.declared.Record.{Record}
 use Rattle.records.specs.declared.Record.the-variants.{Numbers, NoReading, Unknown, Cut}
 use Rattle.lines.specs.Letters.{bytes}
-use Rattle.records.specs.Record.{recordOf, answerOf}
+use Rattle.records.specs.Record.{recordOf}
+use Rattle.questions.specs.Asked.{answerOf}
 use Rattle.records.specs.Run.{recordCount, recordAt}
 use Rattle.lines.specs.Text.{digitsOf, decimalOf}
 

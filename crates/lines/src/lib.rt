@@ -1,9 +1,9 @@
 // The lines that the program answers prints.
 mod text;
 
+use questions::answer;
 use records::RECORD_LENGTH;
 use records::Record;
-use records::answer;
 use records::read;
 use records::record_at;
 use records::record_count;

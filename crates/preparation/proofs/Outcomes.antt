@@ -9,7 +9,7 @@ use lib.Ieee.{Float}
 use Rattle.refusals.specs.declared.Refusal.{Refusal}
 use Rattle.refusals.specs.declared.Refusal.the-variants.{WorkNotFinite}
 use Rattle.arithmetic.specs.Checked.{real}
-use Rattle.fluids.specs.R245ca.{r245ca}
+use Rattle.fluids.specs.declared.Fluid.{Fluid}
 use Rattle.equation.specs.declared.kept.Kept.{Kept}
 use Rattle.equation.specs.Kept.{keptOf}
 use Rattle.search.specs.Plain.{atEnds}
@@ -26,19 +26,19 @@ use Rattle.preparation.specs.Filled.{Filled}
 use Rattle.preparation.specs.Prepare.{preparedBy, prepareOf, greatestAfter, leastAfter}
 
 -- what the call gives, and what it leaves in both lists
-pub record Prepares (t : Float) (c : ℕ) (g₀ l₀ : List Float) (r : Prepared) (g l : List Float) : Type 0 where
-  pub outcome : r ≡ prepareOf t c g₀ l₀
-  pub greatest-left : g ≡ greatestAfter t c g₀ l₀
-  pub least-left : l ≡ leastAfter t c g₀ l₀
+pub record Prepares (F : Fluid) (t : Float) (c : ℕ) (g₀ l₀ : List Float) (r : Prepared) (g l : List Float) : Type 0 where
+  pub outcome : r ≡ prepareOf F t c g₀ l₀
+  pub greatest-left : g ≡ greatestAfter F t c g₀ l₀
+  pub least-left : l ≡ leastAfter F t c g₀ l₀
 
-module _ (t : Float) (c : ℕ) (g₀ l₀ : List Float) where
-  pub prepare-refused : (r : Refusal) → preparePermit r245ca t c (roomOf c (length g₀) (length l₀)) ≡ Denied r → Prepares t c g₀ l₀ (Prepared.Refused r) g₀ l₀
+module _ (F : Fluid) (t : Float) (c : ℕ) (g₀ l₀ : List Float) where
+  pub prepare-refused : (r : Refusal) → preparePermit F t c (roomOf c (length g₀) (length l₀)) ≡ Denied r → Prepares F t c g₀ l₀ (Prepared.Refused r) g₀ l₀
   unfolding prepareOf greatestAfter leastAfter
   prepare-refused r e = record { outcome = sym (rw e); greatest-left = sym (rw e); least-left = sym (rw e) }
 
-  pub prepare-answered : (kept : Kept) (r : Prepared) (g l : List Float) → preparePermit r245ca t c (roomOf c (length g₀) (length l₀)) ≡ Granted → kept ≡ keptOf r245ca t
+  pub prepare-answered : (kept : Kept) (r : Prepared) (g l : List Float) → preparePermit F t c (roomOf c (length g₀) (length l₀)) ≡ Granted → kept ≡ keptOf F t
       → r ≡ preparedBy Granted (someNotFinite (atEnds (stepPressureOf kept)) (c + 1)) → g ≡ greatestList (atEnds (stepPressureOf kept)) c g₀ → l ≡ leastList (atEnds (stepPressureOf kept)) c l₀
-      → Prepares t c g₀ l₀ r g l
+      → Prepares F t c g₀ l₀ r g l
   unfolding prepareOf greatestAfter leastAfter
   prepare-answered kept r g l e k a b d = record {
     outcome = a ∙ ap (λ (y : Kept). preparedBy Granted (someNotFinite (atEnds (stepPressureOf y)) (c + 1))) k ∙ sym (rw e);

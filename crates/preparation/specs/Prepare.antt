@@ -11,7 +11,7 @@ use Rattle.refusals.specs.declared.Permit.{Permit}
 use Rattle.refusals.specs.declared.Permit.the-variants.{Granted, Denied}
 use Rattle.preparation.specs.declared.Prepared.{Prepared}
 use Rattle.preparation.specs.declared.Prepared.the-variants.{Ready}
-use Rattle.fluids.specs.R245ca.{r245ca}
+use Rattle.fluids.specs.declared.Fluid.{Fluid}
 use Rattle.inputs.specs.Inputs.{roomOf, preparePermit}
 use Rattle.steps.specs.Steps.{pressuresOf}
 
@@ -21,9 +21,9 @@ preparedBy (Denied r) notFinite = Prepared.Refused r
 preparedBy Granted true = Prepared.Refused WorkNotFinite
 preparedBy Granted false = Ready
 
-unfoldable pub prepareOf : Float → ℕ → List Float → List Float → Prepared
-prepareOf t c greatest least =
-    preparedBy (preparePermit r245ca t c (roomOf c (length greatest) (length least))) (someNotFinite (atEnds (pressuresOf t)) (c + 1))
+unfoldable pub prepareOf : Fluid → Float → ℕ → List Float → List Float → Prepared
+prepareOf F t c greatest least =
+    preparedBy (preparePermit F t c (roomOf c (length greatest) (length least))) (someNotFinite (atEnds (pressuresOf F t)) (c + 1))
 
 -- a list that the preparation leaves as it was where the inputs are refused
 abbrev pub leftBy : Permit → List Float → List Float → List Float
@@ -31,11 +31,11 @@ leftBy Granted before after = after
 leftBy (Denied r) before after = before
 
 -- the list for G after the call
-unfoldable pub greatestAfter : Float → ℕ → List Float → List Float → List Float
-greatestAfter t c greatest least =
-    leftBy (preparePermit r245ca t c (roomOf c (length greatest) (length least))) greatest (greatestList (atEnds (pressuresOf t)) c greatest)
+unfoldable pub greatestAfter : Fluid → Float → ℕ → List Float → List Float → List Float
+greatestAfter F t c greatest least =
+    leftBy (preparePermit F t c (roomOf c (length greatest) (length least))) greatest (greatestList (atEnds (pressuresOf F t)) c greatest)
 
 -- the list for L after the call
-unfoldable pub leastAfter : Float → ℕ → List Float → List Float → List Float
-leastAfter t c greatest least =
-    leftBy (preparePermit r245ca t c (roomOf c (length greatest) (length least))) least (leastList (atEnds (pressuresOf t)) c least)
+unfoldable pub leastAfter : Fluid → Float → ℕ → List Float → List Float → List Float
+leastAfter F t c greatest least =
+    leftBy (preparePermit F t c (roomOf c (length greatest) (length least))) least (leastList (atEnds (pressuresOf F t)) c least)

@@ -1,6 +1,7 @@
 // 01, "Preparing": the lists G and L of the pressures of an isotherm.
 use equation::Kept;
 use equation::keep;
+use fluids::Fluid;
 use inputs::prepare_inputs;
 use inputs::room;
 use lists::clear;
@@ -12,6 +13,8 @@ use steps::end_pressure;
 ghost use mathlib.Core.Path.{_≡_};
 ghost use Prim.Native.Nat.{_+_, _<_, _≤_};
 ghost use lib.ListN.{length};
+ghost use Rattle.fluids.specs.declared.Fluid.the-variants.{R245ca};
+ghost use Rattle.fluids.specs.Entry.{mostCells};
 ghost use Rattle.search.specs.Plain.{atEnds};
 ghost use Rattle.search.specs.Lists.{someNotFinite, greatestList, leastList};
 ghost use Rattle.refusals.specs.declared.Permit.the-variants.{Granted};
@@ -27,7 +30,7 @@ pub enum Prepared {
 
 // The pressures at the ends 0..c into both lists; false at the first that gives 12.
 fn fill(kept: Kept, c: usize, greatest: &mut [f64], least: &mut [f64]) -> bool
-    requires { ⌜ (c ≤ 2048) × (c < length (now greatest)) × (c < length (now least)) ⌝ }
+    requires { ⌜ (c ≤ mostCells) × (c < length (now greatest)) × (c < length (now least)) ⌝ }
     ensures { λ r. ⌜ Filled (atEnds (stepPressureOf kept)) c
         (now (greatest .entry)) (now (least .entry)) r (now (greatest .exit)) (now (least .exit)) ⌝ }
 {
@@ -46,7 +49,7 @@ fn fill(kept: Kept, c: usize, greatest: &mut [f64], least: &mut [f64]) -> bool
 
 // G and L of the ends 0..c into the first c + 1 places of the lists, or +0 where one of the ends gives 12.
 fn prepare_lists(kept: Kept, c: usize, greatest: &mut [f64], least: &mut [f64]) -> Prepared
-    requires { ⌜ (c ≤ 2048) × (c < length (now greatest)) × (c < length (now least)) ⌝ }
+    requires { ⌜ (c ≤ mostCells) × (c < length (now greatest)) × (c < length (now least)) ⌝ }
     ensures { λ r. ⌜ (r ≡ preparedBy Granted (someNotFinite (atEnds (stepPressureOf kept)) (c + 1)))
         × (now (greatest .exit) ≡ greatestList (atEnds (stepPressureOf kept)) c (now (greatest .entry)))
         × (now (least .exit) ≡ leastList (atEnds (stepPressureOf kept)) c (now (least .entry))) ⌝ }
@@ -62,21 +65,21 @@ fn prepare_lists(kept: Kept, c: usize, greatest: &mut [f64], least: &mut [f64]) 
     }
 }
 
-// The greatest and the least pressures of c cells at t K into the first c + 1 places of two lent lists; or 2, 3, 6, 7, and
+// The greatest and the least pressures of R-245ca over c cells at t K into the first c + 1 places of two lent lists; or 2, 3, 6, 7, and
 // 12 with +0 in those places. 12 never occurs (docs/NO-ANSWER.md).
 pub fn prepare(t: f64, c: usize, greatest: &mut [f64], least: &mut [f64]) -> Prepared
-    ensures { λ r. ⌜ (r ≡ prepareOf t c (now (greatest .entry)) (now (least .entry)))
-        × (now (greatest .exit) ≡ greatestAfter t c (now (greatest .entry)) (now (least .entry)))
-        × (now (least .exit) ≡ leastAfter t c (now (greatest .entry)) (now (least .entry))) ⌝ }
+    ensures { λ r. ⌜ (r ≡ prepareOf R245ca t c (now (greatest .entry)) (now (least .entry)))
+        × (now (greatest .exit) ≡ greatestAfter R245ca t c (now (greatest .entry)) (now (least .entry)))
+        × (now (least .exit) ≡ leastAfter R245ca t c (now (greatest .entry)) (now (least .entry))) ⌝ }
 {
     let n = greatest.len();
     let m = least.len();
     let enough = room(c, n, m);
-    let inputs = prepare_inputs(t, c, enough);
+    let inputs = prepare_inputs(Fluid::R245ca, t, c, enough);
     match inputs {
         Permit::Denied(r) => Prepared::Refused(r),
         Permit::Granted => {
-            let kept = keep(t);
+            let kept = keep(Fluid::R245ca, t);
             prepare_lists(kept, c, greatest, least)
         }
     }

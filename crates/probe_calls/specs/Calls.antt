@@ -8,7 +8,8 @@ use Rattle.refusals.specs.declared.Refusal.the-variants.{UnknownMark}
 use Rattle.refusals.specs.declared.Answer.{Answer}
 use Rattle.refusals.specs.declared.Answer.the-variants.{Refused}
 use Rattle.elementary.specs.Calls.{exponentialOf, logarithmOf, squareRootOf}
-use Rattle.fluids.specs.R245ca.{r245ca}
+use Rattle.fluids.specs.declared.Fluid.the-variants.{R245ca}
+use Rattle.fluids.specs.Entries.{entryOf}
 use Rattle.properties.specs.Calls.{pressureOf, energyOf, enthalpyOf, isochoricOf, entropyOf, gibbsOf, helmholtzOf, isobaricOf, soundSpeedOf}
 use Rattle.saturation.specs.Calls.{saturationPressureOf, saturatedLiquidOf, saturatedVapourOf}
 use Rattle.density.specs.declared.Side.{Side}
@@ -18,7 +19,7 @@ use Rattle.outcomes.specs.Codes.{foundAnswerOf}
 
 -- the plain search over 1,664 cells
 unfoldable pub plainAnswer : Side → Float → Float → Answer
-plainAnswer side T P = foundAnswerOf (plainOf T P 1664 side)
+plainAnswer side T P = foundAnswerOf (plainOf R245ca T P (entryOf R245ca .topCells) side)
 
 -- the calls by number, at the numbers x and y; a call of one number does not look at y
 abbrev pub searchCalls : Float → Float → List (ℕ × Answer)
@@ -29,22 +30,22 @@ searchCalls x y =
 
 abbrev pub estimateCalls : Float → Float → List (ℕ × Answer)
 estimateCalls x y =
-    (20, saturationPressureOf r245ca x)
-    ∷ (21, saturatedLiquidOf r245ca x)
-    ∷ (22, saturatedVapourOf r245ca x)
+    (20, saturationPressureOf R245ca x)
+    ∷ (21, saturatedLiquidOf R245ca x)
+    ∷ (22, saturatedVapourOf R245ca x)
     ∷ searchCalls x y
 
 abbrev pub propertyCalls : Float → Float → List (ℕ × Answer)
 propertyCalls x y =
-    (10, pressureOf r245ca x y)
-    ∷ (11, energyOf r245ca x y)
-    ∷ (12, enthalpyOf r245ca x y)
-    ∷ (13, isochoricOf r245ca x y)
-    ∷ (14, entropyOf r245ca x y)
-    ∷ (15, gibbsOf r245ca x y)
-    ∷ (16, helmholtzOf r245ca x y)
-    ∷ (17, isobaricOf r245ca x y)
-    ∷ (18, soundSpeedOf r245ca x y)
+    (10, pressureOf R245ca x y)
+    ∷ (11, energyOf R245ca x y)
+    ∷ (12, enthalpyOf R245ca x y)
+    ∷ (13, isochoricOf R245ca x y)
+    ∷ (14, entropyOf R245ca x y)
+    ∷ (15, gibbsOf R245ca x y)
+    ∷ (16, helmholtzOf R245ca x y)
+    ∷ (17, isobaricOf R245ca x y)
+    ∷ (18, soundSpeedOf R245ca x y)
     ∷ estimateCalls x y
 
 abbrev pub elementaryCalls : Float → Float → List (ℕ × Answer)

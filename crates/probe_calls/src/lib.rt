@@ -4,6 +4,7 @@ use density::plain;
 use elementary::exponential;
 use elementary::logarithm;
 use elementary::square_root;
+use fluids::Fluid;
 use outcomes::found_answer;
 use properties::energy;
 use properties::enthalpy;
@@ -101,9 +102,10 @@ fn answer_from_30(call: u64, x: f64, y: f64) -> Answer
     Answer::Refused(Refusal::UnknownMark)
 }
 
-// The density alone, by the plain search over 1,664 cells.
+// The density alone, by the plain search up to the fluid's own top.
 fn plain_answer(t: f64, p: f64, side: Side) -> Answer
     ensures { λ r. ⌜ r ≡ plainAnswer side t p ⌝ }
 {
-    found_answer(plain(t, p, 1664, side))
+    let numbers = fluids::single_numbers(Fluid::R245ca);
+    found_answer(plain(t, p, numbers.top_cells, side))
 }

@@ -7,6 +7,7 @@ use Prim.Native.Nat.{ℕ, _-_, _≤_}
 use borrow.Author.Tests.{eq-eqb, ne-eqb}
 use lib.ListN.{length, take, drop}
 use lib.Ieee.{Float, nan, binary64, ofBits}
+use Rattle.fluids.specs.declared.Fluid.the-variants.{R245ca}
 use Rattle.words.specs.Word.{wordOf}
 use Rattle.words.proofs.Tail.{tail-read}
 use Rattle.density.specs.declared.Side.{Side}
@@ -33,14 +34,14 @@ nan-bits : ofBits binary64 9221120237041090560 ≡ nan
 unfolding ofBits
 nan-bits = refl
 
-pub any-serve-none : (G L : List Float) → length G ≡ 1665 → length L ≡ 1665 → Serves (ofBits binary64 9221120237041090560) 1664 G L
-any-serve-none G L g l = any-serve-nan 1664 _ G L nan-bits g l
+pub any-serve-none : (G L : List Float) → length G ≡ 1665 → length L ≡ 1665 → Serves R245ca (ofBits binary64 9221120237041090560) 1664 G L
+any-serve-none G L g l = any-serve-nan R245ca 1664 _ G L nan-bits g l
 
 -- ---- the question at the front
 
 module _ (call first kept : ℕ) (G L : List Float) where
-  pub serves-same : first ≡ kept → Serves (ofBits binary64 kept) 1664 G L → ServesCall call first G L
-  serves-same e s over = serves-at 1664 _ _ G L (ap (ofBits binary64) e) s
+  pub serves-same : first ≡ kept → Serves R245ca (ofBits binary64 kept) 1664 G L → ServesCall call first G L
+  serves-same e s over = serves-at R245ca 1664 _ _ G L (ap (ofBits binary64) e) s
 
   pub serves-other : (b : Bool) → b ≡ overLists call → b ≡ false → ServesCall call first G L
   serves-other b e f over = absurd (true≢false (sym over ∙ sym e ∙ f))
@@ -50,7 +51,7 @@ module _ (s : List ℕ) (call first : ℕ) (G L : List Float) (p : call ≡ word
   same-first = q ∙ ap wordOf (tail-read 8 s)
 
   pub words-serve : ServesCall call first G L → ServesNext s G L
-  words-serve h long over = serves-at 1664 _ _ G L (ap (ofBits binary64) (sym same-first)) (h (ap overLists p ∙ over))
+  words-serve h long over = serves-at R245ca 1664 _ _ G L (ap (ofBits binary64) (sym same-first)) (h (ap overLists p ∙ over))
 
   pub next-serves : ServesNext s G L → 24 ≤ length s → ServesCall call first G L
-  next-serves h long over = serves-at 1664 _ _ G L (ap (ofBits binary64) same-first) (h long (ap overLists (sym p) ∙ over))
+  next-serves h long over = serves-at R245ca 1664 _ _ G L (ap (ofBits binary64) same-first) (h long (ap overLists (sym p) ∙ over))

@@ -3,6 +3,7 @@
 use mathlib.Core.List.{List, _∷_}
 use Prim.Native.Nat.{ℕ}
 use lib.Ieee.{Float, binary64, ofBits}
+use Rattle.fluids.specs.declared.Fluid.the-variants.{R245ca}
 use Rattle.refusals.specs.declared.Answer.{Answer}
 use Rattle.density.specs.declared.Side.{Side}
 use Rattle.density.specs.declared.Side.the-variants.{FromBelow, FromAbove}
@@ -13,7 +14,7 @@ use Rattle.probe_calls.specs.Calls.{elementaryCalls, lookUp}
 
 -- the quick search over the lists that a preparation of 1,664 cells at T leaves
 unfoldable pub quickAnswer : Side → Float → Float → Answer
-quickAnswer side T P = foundAnswerOf (quickOf T P 1664 side (greatestAt T 1664) (leastAt T 1664))
+quickAnswer side T P = foundAnswerOf (quickOf R245ca T P 1664 side (greatestAt R245ca T 1664) (leastAt R245ca T 1664))
 
 -- those over prepared lists, then those of numbers alone
 abbrev pub calls : Float → Float → List (ℕ × Answer)

@@ -6,12 +6,13 @@ use Prim.Native.Nat.{ℕ, _≤_}
 use lib.Dec.{eqb}
 use lib.ListN.{length, drop}
 use lib.Ieee.{Float, binary64, ofBits}
+use Rattle.fluids.specs.declared.Fluid.the-variants.{R245ca}
 use Rattle.words.specs.Word.{wordOf}
 use Rattle.density.specs.Serving.{Serves}
 
 -- the lists serve the temperature of the kept bits
 abbrev pub KeptFor : ℕ → List Float → List Float → Type 0
-KeptFor kept G L = Serves (ofBits binary64 kept) 1664 G L
+KeptFor kept G L = Serves R245ca (ofBits binary64 kept) 1664 G L
 
 -- the calls over prepared lists
 abbrev pub overLists : ℕ → Bool

@@ -7,13 +7,14 @@ use refusals::Answer;
 use words::number;
 ghost use mathlib.Core.Path.{_≡_};
 ghost use lib.ListN.{length};
+ghost use Rattle.fluids.specs.declared.Fluid.the-variants.{R245ca};
 ghost use Rattle.probe_replies.specs.Question.{quickAnswer};
 ghost use Rattle.density.specs.Serving.{Serves};
 ghost use Rattle.probe_replies.specs.Serving.{KeptFor, CallServed, overLists};
 
 // Over lists that serve t.
 pub(crate) fn quick_answer(t: f64, p: f64, side: Side, greatest: &[f64], least: &[f64]) -> Answer
-    requires { ⌜ Serves t 1664 (now greatest) (now least) ⌝ }
+    requires { ⌜ Serves R245ca t 1664 (now greatest) (now least) ⌝ }
     ensures { λ r. ⌜ r ≡ quickAnswer side t p ⌝ }
 {
     found_answer(quick(t, p, 1664, side, greatest, least))

@@ -16,6 +16,7 @@ pub mod Preparation
 pub mod Density
 pub mod Outcomes
 pub mod Records
+pub mod Questions
 pub mod Lines
 pub mod Verriblom
 pub mod Probe

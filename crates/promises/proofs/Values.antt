@@ -1,8 +1,8 @@
 -- Each public call of the crate `values` promises one outcome: its contract gives it by a definition of its arguments.
 use mathlib.Core.Path.{sym, _∙_}
 use Rattle.promises.specs.OneOutcome.{OneResult}
-use Rattle.values.proofs.stability_at.Kinds as stability-at-kinds
-use Rattle.values.proofs.stability_at.Reads as stability-at-reads
+use Rattle.values.proofs.stability_of.Kinds as stability-of-kinds
+use Rattle.values.proofs.stability_of.Reads as stability-of-reads
 use Rattle.values.proofs.energy_value.Kinds as energy-value-kinds
 use Rattle.values.proofs.energy_value.Reads as energy-value-reads
 use Rattle.values.proofs.enthalpy_value.Kinds as enthalpy-value-kinds
@@ -11,6 +11,8 @@ use Rattle.values.proofs.isochoric_value.Kinds as isochoric-value-kinds
 use Rattle.values.proofs.isochoric_value.Reads as isochoric-value-reads
 use Rattle.values.proofs.entropy_value.Kinds as entropy-value-kinds
 use Rattle.values.proofs.entropy_value.Reads as entropy-value-reads
+use Rattle.values.proofs.gibbs_over_rt.Kinds as gibbs-over-rt-kinds
+use Rattle.values.proofs.gibbs_over_rt.Reads as gibbs-over-rt-reads
 use Rattle.values.proofs.gibbs_value.Kinds as gibbs-value-kinds
 use Rattle.values.proofs.gibbs_value.Reads as gibbs-value-reads
 use Rattle.values.proofs.helmholtz_value.Kinds as helmholtz-value-kinds
@@ -20,8 +22,8 @@ use Rattle.values.proofs.isobaric_value.Reads as isobaric-value-reads
 use Rattle.values.proofs.sound_speed_value.Kinds as sound-speed-value-kinds
 use Rattle.values.proofs.sound_speed_value.Reads as sound-speed-value-reads
 
-pub stability-at-one : OneResult _ stability-at-kinds.ps stability-at-kinds.r stability-at-reads.Learnt
-stability-at-one κs a x y e f p q = p ∙ sym q
+pub stability-of-one : OneResult _ stability-of-kinds.ps stability-of-kinds.r stability-of-reads.Learnt
+stability-of-one κs a x y e f p q = p ∙ sym q
 
 pub energy-value-one : OneResult _ energy-value-kinds.ps energy-value-kinds.r energy-value-reads.Learnt
 energy-value-one κs a x y e f p q = p ∙ sym q
@@ -34,6 +36,9 @@ isochoric-value-one κs a x y e f p q = p ∙ sym q
 
 pub entropy-value-one : OneResult _ entropy-value-kinds.ps entropy-value-kinds.r entropy-value-reads.Learnt
 entropy-value-one κs a x y e f p q = p ∙ sym q
+
+pub gibbs-over-rt-one : OneResult _ gibbs-over-rt-kinds.ps gibbs-over-rt-kinds.r gibbs-over-rt-reads.Learnt
+gibbs-over-rt-one κs a x y e f p q = p ∙ sym q
 
 pub gibbs-value-one : OneResult _ gibbs-value-kinds.ps gibbs-value-kinds.r gibbs-value-reads.Learnt
 gibbs-value-one κs a x y e f p q = p ∙ sym q

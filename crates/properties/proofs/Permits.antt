@@ -9,21 +9,23 @@ use Rattle.refusals.specs.declared.Permit.the-variants.{Granted}
 use Rattle.refusals.specs.Order.{firstOf}
 use Rattle.refusals.proofs.Needed.{test-passed, rest-granted}
 use Rattle.arithmetic.specs.Checked.{real, between}
-use Rattle.fluids.specs.Fluid.{Fluid}
+use Rattle.fluids.specs.declared.Fluid.{Fluid}
+use Rattle.fluids.specs.Entries.{entryOf}
+use Rattle.equation.specs.declared.state.State.{State}
 use Rattle.values.specs.declared.Stability.{Stability}
 use Rattle.values.specs.Values.{stabilityOf}
 use Rattle.inputs.specs.Inputs.{statePermit}
 use Rattle.properties.specs.Calls.{stableOf, stabilityPermit}
 
 module _ (F : Fluid) (t ρ : Float) where
-  pub state-temperature : statePermit F t ρ ≡ Granted → between (F .leastT) t (F .greatestT) ≡ true
+  pub state-temperature : statePermit F t ρ ≡ Granted → between (entryOf F .leastT) t (entryOf F .greatestT) ≡ true
   unfolding statePermit
   state-temperature p =
-      let last = firstOf ((between (real 0) ρ (F .greatestρ), DensityOutside) ∷ []) in
-      let inner = firstOf ((between (F .leastT) t (F .greatestT), TemperatureOutside) ∷ (between (real 0) ρ (F .greatestρ), DensityOutside) ∷ []) in
+      let last = firstOf ((between (real 0) ρ (entryOf F .greatestρ), DensityOutside) ∷ []) in
+      let inner = firstOf ((between (entryOf F .leastT) t (entryOf F .greatestT), TemperatureOutside) ∷ (between (real 0) ρ (entryOf F .greatestρ), DensityOutside) ∷ []) in
       test-passed _ last TemperatureOutside (rest-granted (finite t && finite ρ) inner InputNotFinite p)
 
-  -- a stability's permit is that of the state that it is of
-  pub stable-at : (s : Stability) → s ≡ stabilityOf F t ρ → stabilityPermit F t ρ ≡ stableOf (s .v) (s .k) (s .q)
-  unfolding stabilityPermit stabilityOf
-  stable-at s e = simp e
+-- a stability's permit is that of the state that it is of
+pub stable-at : (s : State) (w : Stability) → w ≡ stabilityOf s → stabilityPermit s ≡ stableOf (w .v) (w .k) (w .q)
+unfolding stabilityPermit stabilityOf
+stable-at s w e = simp e

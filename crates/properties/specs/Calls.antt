@@ -9,9 +9,13 @@ use Rattle.refusals.specs.declared.Answer.{Answer}
 use Rattle.refusals.specs.Order.{firstOf, permitted}
 use Rattle.arithmetic.specs.Checked.{real}
 use Rattle.arithmetic.specs.Answered.{answerFrom}
-use Rattle.fluids.specs.Fluid.{Fluid}
+use Rattle.fluids.specs.declared.Fluid.{Fluid}
 use Rattle.inputs.specs.Inputs.{statePermit, potentialPermit}
-use Rattle.values.specs.Values.{«V», K, Q, pressureValue, energyValue, enthalpyValue, isochoricValue, entropyValue, gibbsValue, helmholtzValue, isobaricValue, soundSpeedValue}
+use Rattle.properties.specs.declared.calls.Property.{Property}
+use Rattle.properties.specs.declared.calls.Property.the-variants.{Pressure, Energy, Enthalpy, IsochoricHeatCapacity, Entropy, GibbsEnergy, HelmholtzEnergy, IsobaricHeatCapacity, SoundSpeed}
+use Rattle.equation.specs.declared.state.State.{State}
+use Rattle.equation.specs.Kept.{stateAt, pressureValue}
+use Rattle.values.specs.Values.{«V», K, Q, energyValue, enthalpyValue, isochoricValue, entropyValue, gibbsValue, helmholtzValue, isobaricValue, soundSpeedValue}
 
 -- a density of minus zero is worked as +0
 unfoldable pub workedDensity : Float → Float
@@ -25,44 +29,74 @@ stableOf v k q =
     ∷ (not (le q (real 0)) && not (le v (real 0)), NotStable)
     ∷ [])
 
-module _ (F : Fluid) (T ρ : Float) where
+module _ (s : State) where
   -- V, K and Q are worked before 11 is tested
   unfoldable pub stabilityPermit : Permit
-  stabilityPermit = stableOf («V» F T ρ) (K F T ρ) (Q F T ρ)
+  stabilityPermit = stableOf («V» s) (K s) (Q s)
 
-module _ (F : Fluid) (T : Float) where
+  abbrev pub stableIsobaric : Answer
+  stableIsobaric = permitted stabilityPermit (answerFrom (isobaricValue s))
+
+  abbrev pub stableSoundSpeed : Answer
+  stableSoundSpeed = permitted stabilityPermit (answerFrom (soundSpeedValue s))
+
+-- ---- the call of a property: its inputs, then its work
+
+-- 2, 3, 4; 10 as well where the formula has the logarithm of ρ
+abbrev pub inputsOf : Property → Fluid → Float → Float → Permit
+inputsOf Pressure = statePermit
+inputsOf Energy = statePermit
+inputsOf Enthalpy = statePermit
+inputsOf IsochoricHeatCapacity = statePermit
+inputsOf Entropy = potentialPermit
+inputsOf GibbsEnergy = potentialPermit
+inputsOf HelmholtzEnergy = potentialPermit
+inputsOf IsobaricHeatCapacity = statePermit
+inputsOf SoundSpeed = statePermit
+
+abbrev pub workedOf : Property → State → Answer
+workedOf Pressure s = answerFrom (pressureValue s)
+workedOf Energy s = answerFrom (energyValue s)
+workedOf Enthalpy s = answerFrom (enthalpyValue s)
+workedOf IsochoricHeatCapacity s = answerFrom (isochoricValue s)
+workedOf Entropy s = answerFrom (entropyValue s)
+workedOf GibbsEnergy s = answerFrom (gibbsValue s)
+workedOf HelmholtzEnergy s = answerFrom (helmholtzValue s)
+workedOf IsobaricHeatCapacity s = stableIsobaric s
+workedOf SoundSpeed s = stableSoundSpeed s
+
+abbrev pub callOf : Property → Fluid → Float → Float → Answer
+callOf property F T ρ = permitted (inputsOf property F T ρ) (workedOf property (stateAt F T (workedDensity ρ)))
+
+module _ (F : Fluid) (T ρ : Float) where
   -- pressure, Pa
-  unfoldable pub pressureOf : Float → Answer
-  pressureOf ρ = permitted (statePermit F T ρ) (answerFrom (pressureValue F T (workedDensity ρ)))
+  unfoldable pub pressureOf : Answer
+  pressureOf = callOf Pressure F T ρ
 
   -- energy, enthalpy, J/mol
-  unfoldable pub energyOf : Float → Answer
-  energyOf ρ = permitted (statePermit F T ρ) (answerFrom (energyValue F T (workedDensity ρ)))
+  unfoldable pub energyOf : Answer
+  energyOf = callOf Energy F T ρ
 
-  unfoldable pub enthalpyOf : Float → Answer
-  enthalpyOf ρ = permitted (statePermit F T ρ) (answerFrom (enthalpyValue F T (workedDensity ρ)))
+  unfoldable pub enthalpyOf : Answer
+  enthalpyOf = callOf Enthalpy F T ρ
 
   -- isochoric heat capacity, J/(mol K)
-  unfoldable pub isochoricOf : Float → Answer
-  isochoricOf ρ = permitted (statePermit F T ρ) (answerFrom (isochoricValue F T (workedDensity ρ)))
+  unfoldable pub isochoricOf : Answer
+  isochoricOf = callOf IsochoricHeatCapacity F T ρ
 
   -- entropy, J/(mol K); Gibbs and Helmholtz energy, J/mol
-  unfoldable pub entropyOf : Float → Answer
-  entropyOf ρ = permitted (potentialPermit F T ρ) (answerFrom (entropyValue F T (workedDensity ρ)))
+  unfoldable pub entropyOf : Answer
+  entropyOf = callOf Entropy F T ρ
 
-  unfoldable pub gibbsOf : Float → Answer
-  gibbsOf ρ = permitted (potentialPermit F T ρ) (answerFrom (gibbsValue F T (workedDensity ρ)))
+  unfoldable pub gibbsOf : Answer
+  gibbsOf = callOf GibbsEnergy F T ρ
 
-  unfoldable pub helmholtzOf : Float → Answer
-  helmholtzOf ρ = permitted (potentialPermit F T ρ) (answerFrom (helmholtzValue F T (workedDensity ρ)))
+  unfoldable pub helmholtzOf : Answer
+  helmholtzOf = callOf HelmholtzEnergy F T ρ
 
   -- isobaric heat capacity, J/(mol K); sound speed, m/s
-  unfoldable pub isobaricOf : Float → Answer
-  isobaricOf ρ =
-      permitted (statePermit F T ρ)
-      (permitted (stabilityPermit F T (workedDensity ρ)) (answerFrom (isobaricValue F T (workedDensity ρ))))
+  unfoldable pub isobaricOf : Answer
+  isobaricOf = callOf IsobaricHeatCapacity F T ρ
 
-  unfoldable pub soundSpeedOf : Float → Answer
-  soundSpeedOf ρ =
-      permitted (statePermit F T ρ)
-      (permitted (stabilityPermit F T (workedDensity ρ)) (answerFrom (soundSpeedValue F T (workedDensity ρ))))
+  unfoldable pub soundSpeedOf : Answer
+  soundSpeedOf = callOf SoundSpeed F T ρ

@@ -1,9 +1,13 @@
-// The nine properties as calls: a number, or a numbered refusal. Units: K, mol/dm³, Pa, J/mol, J/(mol K), m/s.
+// The nine properties as calls on R-245ca: a number, or a numbered refusal. Units: K, mol/dm³, Pa, J/mol, J/(mol K), m/s.
 use arithmetic::answer_from;
 use arithmetic::both_finite;
 use arithmetic::finite;
+use equation::Kept;
+use equation::State;
 use equation::keep;
 use equation::pressure_at;
+use equation::state_at;
+use fluids::Fluid;
 use inputs::potential_inputs;
 use inputs::state_inputs;
 use refusals::Answer;
@@ -18,13 +22,24 @@ use values::helmholtz_value;
 use values::isobaric_value;
 use values::isochoric_value;
 use values::sound_speed_value;
-use values::stability_at;
+use values::stability_of;
 ghost use mathlib.Core.Path.{_≡_};
-ghost use Rattle.refusals.specs.Order.{permitted};
-ghost use Rattle.arithmetic.specs.Answered.{answerFrom};
-ghost use Rattle.fluids.specs.R245ca.{r245ca};
-ghost use Rattle.values.specs.Values.{isobaricValue, soundSpeedValue};
+ghost use Rattle.fluids.specs.declared.Fluid.the-variants.{R245ca};
+ghost use Rattle.equation.specs.Kept.{stateOf};
 ghost use Rattle.properties.specs.Calls as Calls;
+
+// What is asked of a state.
+enum Property {
+    Pressure,
+    Energy,
+    Enthalpy,
+    IsochoricHeatCapacity,
+    Entropy,
+    GibbsEnergy,
+    HelmholtzEnergy,
+    IsobaricHeatCapacity,
+    SoundSpeed,
+}
 
 // 12 where V, K or Q is not finite, then 11.
 fn stability_permit(stability: Stability) -> Permit
@@ -55,88 +70,28 @@ fn worked_density(rho: f64) -> f64
     if rho == 0.0 { 0.0 } else { rho }
 }
 
-// Pressure at T and ρ: 2, 3, 4, 12; 12 never occurs (docs/NO-ANSWER.md).
-pub fn pressure(t: f64, rho: f64) -> Answer
-    ensures { λ r. ⌜ r ≡ Calls.pressureOf r245ca t rho ⌝ }
+// 2, 3, 4; and 10 where the formula has the logarithm of the density.
+fn inputs_of(property: Property, fluid: Fluid, t: f64, rho: f64) -> Permit
+    ensures { λ r. ⌜ r ≡ Calls.inputsOf property fluid t rho ⌝ }
 {
-    let permit = state_inputs(t, rho);
-    match permit {
-        Permit::Granted => answer_from(pressure_at(keep(t), worked_density(rho))),
-        Permit::Denied(r) => Answer::Refused(r),
-    }
-}
-
-// Energy at T and ρ: 2, 3, 4, 12; 12 never occurs (docs/NO-ANSWER.md).
-pub fn energy(t: f64, rho: f64) -> Answer
-    ensures { λ r. ⌜ r ≡ Calls.energyOf r245ca t rho ⌝ }
-{
-    let permit = state_inputs(t, rho);
-    match permit {
-        Permit::Granted => answer_from(energy_value(t, worked_density(rho))),
-        Permit::Denied(r) => Answer::Refused(r),
-    }
-}
-
-// Enthalpy at T and ρ: 2, 3, 4, 12; 12 never occurs (docs/NO-ANSWER.md).
-pub fn enthalpy(t: f64, rho: f64) -> Answer
-    ensures { λ r. ⌜ r ≡ Calls.enthalpyOf r245ca t rho ⌝ }
-{
-    let permit = state_inputs(t, rho);
-    match permit {
-        Permit::Granted => answer_from(enthalpy_value(t, worked_density(rho))),
-        Permit::Denied(r) => Answer::Refused(r),
-    }
-}
-
-// Isochoric heat capacity at T and ρ: 2, 3, 4, 12; 12 never occurs (docs/NO-ANSWER.md).
-pub fn isochoric_heat_capacity(t: f64, rho: f64) -> Answer
-    ensures { λ r. ⌜ r ≡ Calls.isochoricOf r245ca t rho ⌝ }
-{
-    let permit = state_inputs(t, rho);
-    match permit {
-        Permit::Granted => answer_from(isochoric_value(t, worked_density(rho))),
-        Permit::Denied(r) => Answer::Refused(r),
-    }
-}
-
-// Entropy at T and ρ: 2, 3, 4, 10, 12.
-pub fn entropy(t: f64, rho: f64) -> Answer
-    ensures { λ r. ⌜ r ≡ Calls.entropyOf r245ca t rho ⌝ }
-{
-    let permit = potential_inputs(t, rho);
-    match permit {
-        Permit::Granted => answer_from(entropy_value(t, worked_density(rho))),
-        Permit::Denied(r) => Answer::Refused(r),
-    }
-}
-
-// Gibbs energy at T and ρ: 2, 3, 4, 10, 12.
-pub fn gibbs_energy(t: f64, rho: f64) -> Answer
-    ensures { λ r. ⌜ r ≡ Calls.gibbsOf r245ca t rho ⌝ }
-{
-    let permit = potential_inputs(t, rho);
-    match permit {
-        Permit::Granted => answer_from(gibbs_value(t, worked_density(rho))),
-        Permit::Denied(r) => Answer::Refused(r),
-    }
-}
-
-// Helmholtz energy at T and ρ: 2, 3, 4, 10, 12.
-pub fn helmholtz_energy(t: f64, rho: f64) -> Answer
-    ensures { λ r. ⌜ r ≡ Calls.helmholtzOf r245ca t rho ⌝ }
-{
-    let permit = potential_inputs(t, rho);
-    match permit {
-        Permit::Granted => answer_from(helmholtz_value(t, worked_density(rho))),
-        Permit::Denied(r) => Answer::Refused(r),
+    match property {
+        Property::Pressure => state_inputs(fluid, t, rho),
+        Property::Energy => state_inputs(fluid, t, rho),
+        Property::Enthalpy => state_inputs(fluid, t, rho),
+        Property::IsochoricHeatCapacity => state_inputs(fluid, t, rho),
+        Property::Entropy => potential_inputs(fluid, t, rho),
+        Property::GibbsEnergy => potential_inputs(fluid, t, rho),
+        Property::HelmholtzEnergy => potential_inputs(fluid, t, rho),
+        Property::IsobaricHeatCapacity => state_inputs(fluid, t, rho),
+        Property::SoundSpeed => state_inputs(fluid, t, rho),
     }
 }
 
 // Isobaric heat capacity of a permitted state.
-fn stable_isobaric(t: f64, rho: f64) -> Answer
-    ensures { λ r. ⌜ r ≡ permitted (Calls.stabilityPermit r245ca t rho) (answerFrom (isobaricValue r245ca t rho)) ⌝ }
+fn stable_isobaric(state: State) -> Answer
+    ensures { λ r. ⌜ r ≡ Calls.stableIsobaric state ⌝ }
 {
-    let stability = stability_at(t, rho);
+    let stability = stability_of(state);
     let permit = stability_permit(stability);
     match permit {
         Permit::Granted => answer_from(isobaric_value(stability)),
@@ -145,36 +100,105 @@ fn stable_isobaric(t: f64, rho: f64) -> Answer
 }
 
 // Sound speed of a permitted state.
-fn stable_sound_speed(t: f64, rho: f64) -> Answer
-    ensures { λ r. ⌜ r ≡ permitted (Calls.stabilityPermit r245ca t rho) (answerFrom (soundSpeedValue r245ca t rho)) ⌝ }
+fn stable_sound_speed(state: State) -> Answer
+    ensures { λ r. ⌜ r ≡ Calls.stableSoundSpeed state ⌝ }
 {
-    let stability = stability_at(t, rho);
+    let stability = stability_of(state);
     let permit = stability_permit(stability);
     match permit {
-        Permit::Granted => answer_from(sound_speed_value(t, stability)),
+        Permit::Granted => answer_from(sound_speed_value(stability)),
         Permit::Denied(r) => Answer::Refused(r),
     }
+}
+
+// The property of a permitted state. The pressure is worked without the other five sums.
+fn worked(property: Property, kept: Kept, rho: f64) -> Answer
+    ensures { λ r. ⌜ r ≡ Calls.workedOf property (stateOf kept rho) ⌝ }
+{
+    match property {
+        Property::Pressure => answer_from(pressure_at(kept, rho)),
+        Property::Energy => answer_from(energy_value(state_at(kept, rho))),
+        Property::Enthalpy => answer_from(enthalpy_value(state_at(kept, rho))),
+        Property::IsochoricHeatCapacity => answer_from(isochoric_value(state_at(kept, rho))),
+        Property::Entropy => answer_from(entropy_value(state_at(kept, rho))),
+        Property::GibbsEnergy => answer_from(gibbs_value(state_at(kept, rho))),
+        Property::HelmholtzEnergy => answer_from(helmholtz_value(state_at(kept, rho))),
+        Property::IsobaricHeatCapacity => stable_isobaric(state_at(kept, rho)),
+        Property::SoundSpeed => stable_sound_speed(state_at(kept, rho)),
+    }
+}
+
+// The property of a fluid at T and ρ, or the first refusal.
+fn answer_of(property: Property, fluid: Fluid, t: f64, rho: f64) -> Answer
+    ensures { λ r. ⌜ r ≡ Calls.callOf property fluid t rho ⌝ }
+{
+    let permit = inputs_of(property, fluid, t, rho);
+    match permit {
+        Permit::Granted => worked(property, keep(fluid, t), worked_density(rho)),
+        Permit::Denied(r) => Answer::Refused(r),
+    }
+}
+
+// Pressure at T and ρ: 2, 3, 4, 12; 12 never occurs (docs/NO-ANSWER.md).
+pub fn pressure(t: f64, rho: f64) -> Answer
+    ensures { λ r. ⌜ r ≡ Calls.pressureOf R245ca t rho ⌝ }
+{
+    answer_of(Property::Pressure, Fluid::R245ca, t, rho)
+}
+
+// Energy at T and ρ: 2, 3, 4, 12; 12 never occurs (docs/NO-ANSWER.md).
+pub fn energy(t: f64, rho: f64) -> Answer
+    ensures { λ r. ⌜ r ≡ Calls.energyOf R245ca t rho ⌝ }
+{
+    answer_of(Property::Energy, Fluid::R245ca, t, rho)
+}
+
+// Enthalpy at T and ρ: 2, 3, 4, 12; 12 never occurs (docs/NO-ANSWER.md).
+pub fn enthalpy(t: f64, rho: f64) -> Answer
+    ensures { λ r. ⌜ r ≡ Calls.enthalpyOf R245ca t rho ⌝ }
+{
+    answer_of(Property::Enthalpy, Fluid::R245ca, t, rho)
+}
+
+// Isochoric heat capacity at T and ρ: 2, 3, 4, 12; 12 never occurs (docs/NO-ANSWER.md).
+pub fn isochoric_heat_capacity(t: f64, rho: f64) -> Answer
+    ensures { λ r. ⌜ r ≡ Calls.isochoricOf R245ca t rho ⌝ }
+{
+    answer_of(Property::IsochoricHeatCapacity, Fluid::R245ca, t, rho)
+}
+
+// Entropy at T and ρ: 2, 3, 4, 10, 12.
+pub fn entropy(t: f64, rho: f64) -> Answer
+    ensures { λ r. ⌜ r ≡ Calls.entropyOf R245ca t rho ⌝ }
+{
+    answer_of(Property::Entropy, Fluid::R245ca, t, rho)
+}
+
+// Gibbs energy at T and ρ: 2, 3, 4, 10, 12.
+pub fn gibbs_energy(t: f64, rho: f64) -> Answer
+    ensures { λ r. ⌜ r ≡ Calls.gibbsOf R245ca t rho ⌝ }
+{
+    answer_of(Property::GibbsEnergy, Fluid::R245ca, t, rho)
+}
+
+// Helmholtz energy at T and ρ: 2, 3, 4, 10, 12.
+pub fn helmholtz_energy(t: f64, rho: f64) -> Answer
+    ensures { λ r. ⌜ r ≡ Calls.helmholtzOf R245ca t rho ⌝ }
+{
+    answer_of(Property::HelmholtzEnergy, Fluid::R245ca, t, rho)
 }
 
 // Isobaric heat capacity at T and ρ: 2, 3, 4, then 12 and 11 as the work meets them. Whether 12 occurs is not decided
 // (docs/NO-ANSWER.md).
 pub fn isobaric_heat_capacity(t: f64, rho: f64) -> Answer
-    ensures { λ r. ⌜ r ≡ Calls.isobaricOf r245ca t rho ⌝ }
+    ensures { λ r. ⌜ r ≡ Calls.isobaricOf R245ca t rho ⌝ }
 {
-    let permit = state_inputs(t, rho);
-    match permit {
-        Permit::Granted => stable_isobaric(t, worked_density(rho)),
-        Permit::Denied(r) => Answer::Refused(r),
-    }
+    answer_of(Property::IsobaricHeatCapacity, Fluid::R245ca, t, rho)
 }
 
 // Sound speed at T and ρ: 2, 3, 4, then 12 and 11 as the work meets them.
 pub fn sound_speed(t: f64, rho: f64) -> Answer
-    ensures { λ r. ⌜ r ≡ Calls.soundSpeedOf r245ca t rho ⌝ }
+    ensures { λ r. ⌜ r ≡ Calls.soundSpeedOf R245ca t rho ⌝ }
 {
-    let permit = state_inputs(t, rho);
-    match permit {
-        Permit::Granted => stable_sound_speed(t, worked_density(rho)),
-        Permit::Denied(r) => Answer::Refused(r),
-    }
+    answer_of(Property::SoundSpeed, Fluid::R245ca, t, rho)
 }

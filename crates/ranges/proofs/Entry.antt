@@ -7,49 +7,53 @@ use lib.Ieee.{Float, ofInt, round, le}
 use lib.Ieee.Fits.{and-l, and-r}
 use lib.Ieee.Scale.{finite}
 use Rattle.arithmetic.specs.Checked.{real, two⁻, between}
-use Rattle.fluids.specs.Fluid.{Fluid}
-use Rattle.values.specs.Values.{δ, «V», K, Q, pressureValue, energyValue, enthalpyValue, isochoricValue, entropyValue, gibbsValue, helmholtzValue, isobaricValue}
+use Rattle.fluids.specs.declared.Fluid.{Fluid}
+use Rattle.fluids.specs.Entry.{Entry}
+use Rattle.fluids.specs.Entries.{entryOf}
+use Rattle.equation.specs.Kept.{stateAt, pressureValue}
+use Rattle.equation.proofs.Entry.{state-is}
+use Rattle.values.specs.Values.{«V», K, Q, energyValue, enthalpyValue, isochoricValue, entropyValue, gibbsValue, helmholtzValue, isobaricValue}
 use Rattle.arithmetic.proofs.Within.{between-finite}
 use Rattle.intervals.proofs.Interval.{Interval, ends, In, interval, tested, point, at, known, in-known}
 use Rattle.intervals.proofs.Quotient.{_÷_, _⟨⊘⟩_}
 use Rattle.ranges.proofs.State.{State, state, stateOver, InState, state-in}
 
 -- the range of an entry
-abbrev pub temperatures : Fluid → Interval
-temperatures F = interval (F .leastT) (F .greatestT)
+abbrev pub temperatures : Entry → Interval
+temperatures E = interval (E .leastT) (E .greatestT)
 
-abbrev pub densities : Fluid → Interval
-densities F = interval (real 0) (F .greatestρ)
+abbrev pub densities : Entry → Interval
+densities E = interval (real 0) (E .greatestρ)
 
 abbrev allKnown : State → Bool
 allKnown (state p e h c v k q cp f g s) = known p && (known e && (known h && (known c && (known v && (known k && (known q && (known cp && (known f && (known g && known s)))))))))
 
-abbrev reducedDensities : Fluid → Interval
-reducedDensities F = densities F ÷ point (F .ρc)
+abbrev reducedDensities : Entry → Interval
+reducedDensities E = densities E ÷ point (E .ρc)
 
-abbrev endsFinite : Fluid → Bool
-endsFinite F = finite (F .leastT) && (finite (F .greatestT) && finite (F .greatestρ))
+abbrev endsFinite : Entry → Bool
+endsFinite E = finite (E .leastT) && (finite (E .greatestT) && finite (E .greatestρ))
 
 -- the computed test
-abbrev pub passes : Fluid → Bool
-passes F = endsFinite F && (known (reducedDensities F) && allKnown (stateOver F (temperatures F) (densities F)))
+abbrev pub passes : Entry → Bool
+passes E = endsFinite E && (known (reducedDensities E) && allKnown (stateOver E (temperatures E) (densities E)))
 
 -- what it is worth
 pub record Finite (F : Fluid) (t r : Float) : Type 0 where
-  pub reduced : T (finite (δ F t r))
-  pub pressure : T (finite (pressureValue F t r))
-  pub energy : T (finite (energyValue F t r))
-  pub enthalpy : T (finite (enthalpyValue F t r))
-  pub isochoric : T (finite (isochoricValue F t r))
-  pub v : T (finite («V» F t r))
-  pub k : T (finite (K F t r))
-  pub q : T (finite (Q F t r))
-  pub isobaric : T (le (two⁻ 930) (Q F t r)) → T (finite (isobaricValue F t r))
-  pub helmholtz : T (le (two⁻ 60) (δ F t r)) → T (finite (helmholtzValue F t r))
-  pub gibbs : T (le (two⁻ 60) (δ F t r)) → T (finite (gibbsValue F t r))
-  pub entropy : T (le (two⁻ 60) (δ F t r)) → T (finite (entropyValue F t r))
+  pub reduced : T (finite (stateAt F t r .delta))
+  pub pressure : T (finite (pressureValue (stateAt F t r)))
+  pub energy : T (finite (energyValue (stateAt F t r)))
+  pub enthalpy : T (finite (enthalpyValue (stateAt F t r)))
+  pub isochoric : T (finite (isochoricValue (stateAt F t r)))
+  pub v : T (finite («V» (stateAt F t r)))
+  pub k : T (finite (K (stateAt F t r)))
+  pub q : T (finite (Q (stateAt F t r)))
+  pub isobaric : T (le (two⁻ 930) (Q (stateAt F t r))) → T (finite (isobaricValue (stateAt F t r)))
+  pub helmholtz : T (le (two⁻ 60) (stateAt F t r .delta)) → T (finite (helmholtzValue (stateAt F t r)))
+  pub gibbs : T (le (two⁻ 60) (stateAt F t r .delta)) → T (finite (gibbsValue (stateAt F t r)))
+  pub entropy : T (le (two⁻ 60) (stateAt F t r .delta)) → T (finite (entropyValue (stateAt F t r)))
 
-all-finite : (F : Fluid) (t r : Float) (S : State) → T (allKnown S) → T (finite (δ F t r)) → InState F t r S → Finite F t r
+all-finite : (F : Fluid) (t r : Float) (S : State) → T (allKnown S) → T (finite (stateAt F t r .delta)) → InState (stateAt F t r) S → Finite F t r
 all-finite F t r (state (ends _ _) (ends _ _) (ends _ _) (ends _ _) (ends _ _) (ends _ _) (ends _ _) (ends _ _) (ends _ _) (ends _ _) (ends _ _)) ok d (p, e, h, c, v, k, q, cp, rest) = record {
   reduced = d;
   pressure = in-known tt p;
@@ -69,37 +73,37 @@ finite-0 : T (finite (real 0))
 unfolding ofInt round
 finite-0 = tt
 
-module _ (F : Fluid) (ok : T (passes F)) (t r : Float) where
-  rest : T (known (reducedDensities F) && allKnown (stateOver F (temperatures F) (densities F)))
-  rest = and-r (endsFinite F) (known (reducedDensities F) && allKnown (stateOver F (temperatures F) (densities F))) ok
+module _ (F : Fluid) (ok : T (passes (entryOf F))) (t r : Float) where
+  rest : T (known (reducedDensities (entryOf F)) && allKnown (stateOver (entryOf F) (temperatures (entryOf F)) (densities (entryOf F))))
+  rest = and-r (endsFinite (entryOf F)) (known (reducedDensities (entryOf F)) && allKnown (stateOver (entryOf F) (temperatures (entryOf F)) (densities (entryOf F)))) ok
 
-  ends-finite : T (finite (F .leastT)) × T (finite (F .greatestT)) × T (finite (F .greatestρ))
+  ends-finite : T (finite (entryOf F .leastT)) × T (finite (entryOf F .greatestT)) × T (finite (entryOf F .greatestρ))
   ends-finite =
-      let e = and-l (endsFinite F) (known (reducedDensities F) && allKnown (stateOver F (temperatures F) (densities F))) ok in
-      let upper = and-r (finite (F .leastT)) (finite (F .greatestT) && finite (F .greatestρ)) e in (
-        and-l (finite (F .leastT)) (finite (F .greatestT) && finite (F .greatestρ)) e,
-        and-l (finite (F .greatestT)) (finite (F .greatestρ)) upper,
-        and-r (finite (F .greatestT)) (finite (F .greatestρ)) upper,
+      let e = and-l (endsFinite (entryOf F)) (known (reducedDensities (entryOf F)) && allKnown (stateOver (entryOf F) (temperatures (entryOf F)) (densities (entryOf F)))) ok in
+      let upper = and-r (finite (entryOf F .leastT)) (finite (entryOf F .greatestT) && finite (entryOf F .greatestρ)) e in (
+        and-l (finite (entryOf F .leastT)) (finite (entryOf F .greatestT) && finite (entryOf F .greatestρ)) e,
+        and-l (finite (entryOf F .greatestT)) (finite (entryOf F .greatestρ)) upper,
+        and-r (finite (entryOf F .greatestT)) (finite (entryOf F .greatestρ)) upper,
       )
 
-  pub temperature-in : T (between (F .leastT) t (F .greatestT)) → In (temperatures F) t
+  pub temperature-in : T (between (entryOf F .leastT) t (entryOf F .greatestT)) → In (temperatures (entryOf F)) t
   temperature-in h =
-      tested (F .leastT) (F .greatestT) t (ends-finite .0) (ends-finite .1)
-      (and-l (le (F .leastT) t) (le t (F .greatestT)) h) (and-r (le (F .leastT) t) (le t (F .greatestT)) h)
+      tested (entryOf F .leastT) (entryOf F .greatestT) t (ends-finite .0) (ends-finite .1)
+      (and-l (le (entryOf F .leastT) t) (le t (entryOf F .greatestT)) h) (and-r (le (entryOf F .leastT) t) (le t (entryOf F .greatestT)) h)
 
-  pub temperature-finite : T (between (F .leastT) t (F .greatestT)) → T (finite t)
+  pub temperature-finite : T (between (entryOf F .leastT) t (entryOf F .greatestT)) → T (finite t)
   temperature-finite h =
-      between-finite (F .leastT) t (F .greatestT) (ends-finite .0) (ends-finite .1)
-      (and-l (le (F .leastT) t) (le t (F .greatestT)) h) (and-r (le (F .leastT) t) (le t (F .greatestT)) h)
+      between-finite (entryOf F .leastT) t (entryOf F .greatestT) (ends-finite .0) (ends-finite .1)
+      (and-l (le (entryOf F .leastT) t) (le t (entryOf F .greatestT)) h) (and-r (le (entryOf F .leastT) t) (le t (entryOf F .greatestT)) h)
 
-  pub density-in : T (between (real 0) r (F .greatestρ)) → In (densities F) r
+  pub density-in : T (between (real 0) r (entryOf F .greatestρ)) → In (densities (entryOf F)) r
   density-in h =
-      tested (real 0) (F .greatestρ) r finite-0 (ends-finite .2)
-      (and-l (le (real 0) r) (le r (F .greatestρ)) h) (and-r (le (real 0) r) (le r (F .greatestρ)) h)
+      tested (real 0) (entryOf F .greatestρ) r finite-0 (ends-finite .2)
+      (and-l (le (real 0) r) (le r (entryOf F .greatestρ)) h) (and-r (le (real 0) r) (le r (entryOf F .greatestρ)) h)
 
-  pub finite-in-range : T (between (F .leastT) t (F .greatestT)) → T (between (real 0) r (F .greatestρ)) → Finite F t r
+  pub finite-in-range : T (between (entryOf F .leastT) t (entryOf F .greatestT)) → T (between (real 0) r (entryOf F .greatestρ)) → Finite F t r
   finite-in-range h k =
-      let S = stateOver F (temperatures F) (densities F) in
-      all-finite F t r S (and-r (known (reducedDensities F)) (allKnown S) rest)
-      (unfold δ in in-known (and-l (known (reducedDensities F)) (allKnown S) rest) (density-in k ⟨⊘⟩ at (F .ρc)))
+      let S = stateOver (entryOf F) (temperatures (entryOf F)) (densities (entryOf F)) in
+      all-finite F t r S (and-r (known (reducedDensities (entryOf F))) (allKnown S) rest)
+      (rw state-is (in-known (and-l (known (reducedDensities (entryOf F))) (allKnown S) rest) (density-in k ⟨⊘⟩ at (entryOf F .ρc))))
       (state-in F t r (temperature-in h) (density-in k))

@@ -4,9 +4,9 @@ use mathlib.Core.Path.{_≡_, refl, sym, ap, _∙_, subst}
 use mathlib.Core.Logic.{inl, inr}
 use mathlib.Core.Bool.{Bool, false, _&&_}
 use mathlib.Core.List.{List}
-use Prim.Native.Nat.{ℕ, zero, suc, _+_}
+use Prim.Native.Nat.{ℕ, zero, suc, _+_, _-_}
 use lib.Dec.{T}
-use lib.ListN.{getD}
+use lib.ListN.{length, getD}
 use lib.Ieee.{Float, nan, binary64, fits, ofInt, round, le, lt, eq, neg, add}
 use lib.Ieee.Fits.{and-l, and-r, neg-fits}
 use lib.Ieee.Scale.{finite}
@@ -16,8 +16,10 @@ use Rattle.arithmetic.proofs.Forced.{forced}
 use Rattle.arithmetic.proofs.Order as tests
 use Rattle.fluids.specs.declared.Estimate.{Estimate}
 use Rattle.fluids.specs.declared.Estimate.the-variants.{Alone, Raised}
-use Rattle.fluids.specs.Fluid.{Fluid}
-use Rattle.saturation.specs.Estimates.{thetaOf, termOf, termAt, plusTerms, pressureEstimate, liquidEstimate, vapourEstimate}
+use Rattle.fluids.specs.declared.Fluid.{Fluid}
+use Rattle.fluids.specs.Entry.{Entry}
+use Rattle.fluids.specs.Entries.{entryOf}
+use Rattle.saturation.specs.Estimates.{thetaOf, termOf, termAt, plusTerms, fromFirst, seriesOf, pressureEstimate, liquidEstimate, vapourEstimate}
 use Rattle.arithmetic.proofs.Within.{between-finite}
 use Rattle.intervals.proofs.Fractions.{chain}
 use Rattle.intervals.proofs.Interval.{Interval, ends, In, interval, tested, point, at, known, in-known, lies, lies-in, fromOn, from-on-in, _▶_, computed}
@@ -41,6 +43,9 @@ unfoldable pub plusOver : Interval → Interval → List Estimate → Interval �
 plusOver Θ L terms S k zero = S
 plusOver Θ L terms S k (suc n) = plusOver Θ L terms S k n ▶ λ S. S ⊞ estimateAtOver Θ L terms (k + n)
 
+abbrev pub fromFirstOver : Interval → Interval → List Estimate → Interval
+fromFirstOver Θ L terms = plusOver Θ L terms (estimateAtOver Θ L terms 0) 1 (length terms - 1)
+
 module _ {Θ L : Interval} {θ : Float} (h : In Θ θ) (w : eq θ (real 0) ≡ false → In L (lnOf θ)) where
   term-in : (e : Estimate) → In (estimateOver Θ L e) (termOf θ e)
   unfolding estimateOver termOf
@@ -56,26 +61,30 @@ module _ {Θ L : Interval} {θ : Float} (h : In Θ θ) (w : eq θ (real 0) ≡ f
   plus-in terms a k zero = a
   plus-in terms a k (suc n) = simp (computed, forced) (plus-in terms a k n ⟨⊕⟩ term-at-in terms (k + n))
 
+  from-first-in : (terms : List Estimate) → In (fromFirstOver Θ L terms) (fromFirst θ terms (length terms))
+  unfolding fromFirst
+  from-first-in terms = plus-in terms (term-at-in terms 0) 1 (length terms - 1)
+
 -- ---- the estimates
 pub data Three : Type 0 where
   three : (pressure liquid vapour : Interval) → Three
 
-unfoldable pub estimatesOver : Fluid → Interval → Interval → Interval → Three
-estimatesOver F Ts Θ L =
+unfoldable pub estimatesOver : Entry → Interval → Interval → Interval → Three
+estimatesOver E Ts Θ L =
     three
-    (point (F .pc) ⊠ expOver ((point (F .Tc) ÷ Ts) ⊠ plusOver Θ L (F .pressureTerms) (estimateAtOver Θ L (F .pressureTerms) 0) 1 3))
-    (point (F .ρc) ⊠ plusOver Θ L (F .liquidTerms) (point (real 1)) 0 5)
-    (point (F .ρc) ⊠ expOver (plusOver Θ L (F .vapourTerms) (estimateAtOver Θ L (F .vapourTerms) 0) 1 4))
+    (point (E .pc) ⊠ expOver ((point (E .Tc) ÷ Ts) ⊠ fromFirstOver Θ L (E .pressureTerms)))
+    (point (E .ρc) ⊠ plusOver Θ L (E .liquidTerms) (point (real 1)) 0 (length (E .liquidTerms)))
+    (point (E .ρc) ⊠ expOver (fromFirstOver Θ L (E .vapourTerms)))
 
 abbrev InThree : Fluid → Float → Three → Type 0
 InThree F t (three p l v) = In p (pressureEstimate F t) × In l (liquidEstimate F t) × In v (vapourEstimate F t)
 
-estimates-in : {Ts Θ L : Interval} (F : Fluid) (t : Float) → In Ts t → In Θ (thetaOf F t) → (eq (thetaOf F t) (real 0) ≡ false → In L (lnOf (thetaOf F t))) → InThree F t (estimatesOver F Ts Θ L)
-unfolding estimatesOver pressureEstimate liquidEstimate vapourEstimate
+estimates-in : {Ts Θ L : Interval} (F : Fluid) (t : Float) → In Ts t → In Θ (thetaOf F t) → (eq (thetaOf F t) (real 0) ≡ false → In L (lnOf (thetaOf F t))) → InThree F t (estimatesOver (entryOf F) Ts Θ L)
+unfolding estimatesOver pressureEstimate liquidEstimate vapourEstimate seriesOf
 estimates-in F t a h w = simp forced (
-  at (F .pc) ⟨⊗⟩ ⟨exp⟩ ((at (F .Tc) ⟨⊘⟩ a) ⟨⊗⟩ plus-in h w (F .pressureTerms) (term-at-in h w (F .pressureTerms) 0) 1 3),
-  at (F .ρc) ⟨⊗⟩ plus-in h w (F .liquidTerms) (at (real 1)) 0 5,
-  at (F .ρc) ⟨⊗⟩ ⟨exp⟩ (plus-in h w (F .vapourTerms) (term-at-in h w (F .vapourTerms) 0) 1 4),
+  at (entryOf F .pc) ⟨⊗⟩ ⟨exp⟩ ((at (entryOf F .Tc) ⟨⊘⟩ a) ⟨⊗⟩ from-first-in h w (entryOf F .pressureTerms)),
+  at (entryOf F .ρc) ⟨⊗⟩ plus-in h w (entryOf F .liquidTerms) (at (real 1)) 0 (length (entryOf F .liquidTerms)),
+  at (entryOf F .ρc) ⟨⊗⟩ ⟨exp⟩ (from-first-in h w (entryOf F .vapourTerms)),
 )
 
 -- ---- θ is 0 or at least 2⁻⁵⁴
@@ -103,23 +112,23 @@ one-less x f p q above not-zero =
     ]
 
 -- ---- the computed test of an entry
-abbrev pub belowCritical : Fluid → Interval
-belowCritical F = interval (F .leastT) (F .Tc)
+abbrev pub belowCritical : Entry → Interval
+belowCritical E = interval (E .leastT) (E .Tc)
 
-abbrev pub quotients : Fluid → Interval
-quotients F = belowCritical F ÷ point (F .Tc)
+abbrev pub quotients : Entry → Interval
+quotients E = belowCritical E ÷ point (E .Tc)
 
-abbrev pub thetas : Fluid → Interval
-thetas F = point (real 1) ⊟ quotients F
+abbrev pub thetas : Entry → Interval
+thetas E = point (real 1) ⊟ quotients E
 
 abbrev threeKnown : Three → Bool
 threeKnown (three p l v) = known p && (known l && known v)
 
-unfoldable pub estimatesKnown : Fluid → Bool
-estimatesKnown F = thetas F ▶ λ Θ. lnOver (fromOn (two⁻ 54) Θ) ▶ λ L. threeKnown (estimatesOver F (belowCritical F) Θ L)
+unfoldable pub estimatesKnown : Entry → Bool
+estimatesKnown E = thetas E ▶ λ Θ. lnOver (fromOn (two⁻ 54) Θ) ▶ λ L. threeKnown (estimatesOver E (belowCritical E) Θ L)
 
-abbrev pub estimateEnds : Fluid → Bool
-estimateEnds F = (finite (F .leastT) && finite (F .Tc)) && (known (quotients F) && lies (real 0) (thetas F) (real 1))
+abbrev pub estimateEnds : Entry → Bool
+estimateEnds E = (finite (E .leastT) && finite (E .Tc)) && (known (quotients E) && lies (real 0) (thetas E) (real 1))
 
 finite-zero : T (finite (real 0))
 unfolding ofInt round
@@ -128,24 +137,24 @@ finite-zero = tt
 three-finite : (F : Fluid) (t : Float) (Z : Three) → T (threeKnown Z) → InThree F t Z → T (finite (pressureEstimate F t)) × T (finite (liquidEstimate F t)) × T (finite (vapourEstimate F t))
 three-finite F t (three (ends _ _) (ends _ _) (ends _ _)) k (p, l, v) = (in-known tt p, in-known tt l, in-known tt v)
 
-module _ (F : Fluid) (fine : T (estimateEnds F)) (ok : T (estimatesKnown F)) (t : Float) where
-  ends-tested : T (finite (F .leastT) && finite (F .Tc)) × T (known (quotients F)) × T (lies (real 0) (thetas F) (real 1))
+module _ (F : Fluid) (fine : T (estimateEnds (entryOf F))) (ok : T (estimatesKnown (entryOf F))) (t : Float) where
+  ends-tested : T (finite (entryOf F .leastT) && finite (entryOf F .Tc)) × T (known (quotients (entryOf F))) × T (lies (real 0) (thetas (entryOf F)) (real 1))
   ends-tested =
-      let rest = and-r (finite (F .leastT) && finite (F .Tc)) (known (quotients F) && lies (real 0) (thetas F) (real 1)) fine in (
-        and-l (finite (F .leastT) && finite (F .Tc)) (known (quotients F) && lies (real 0) (thetas F) (real 1)) fine,
-        and-l (known (quotients F)) (lies (real 0) (thetas F) (real 1)) rest,
-        and-r (known (quotients F)) (lies (real 0) (thetas F) (real 1)) rest,
+      let rest = and-r (finite (entryOf F .leastT) && finite (entryOf F .Tc)) (known (quotients (entryOf F)) && lies (real 0) (thetas (entryOf F)) (real 1)) fine in (
+        and-l (finite (entryOf F .leastT) && finite (entryOf F .Tc)) (known (quotients (entryOf F)) && lies (real 0) (thetas (entryOf F)) (real 1)) fine,
+        and-l (known (quotients (entryOf F))) (lies (real 0) (thetas (entryOf F)) (real 1)) rest,
+        and-r (known (quotients (entryOf F))) (lies (real 0) (thetas (entryOf F)) (real 1)) rest,
       )
 
-  pub estimates-finite : T (le (F .leastT) t) → T (le t (F .Tc)) → T (finite (pressureEstimate F t)) × T (finite (liquidEstimate F t)) × T (finite (vapourEstimate F t))
+  pub estimates-finite : T (le (entryOf F .leastT) t) → T (le t (entryOf F .Tc)) → T (finite (pressureEstimate F t)) × T (finite (liquidEstimate F t)) × T (finite (vapourEstimate F t))
   unfolding estimatesKnown thetaOf
   estimates-finite low high =
-      let a = tested (F .leastT) (F .Tc) t (and-l (finite (F .leastT)) (finite (F .Tc)) (ends-tested .0)) (and-r (finite (F .leastT)) (finite (F .Tc)) (ends-tested .0)) low high in
-      let x = a ⟨⊘⟩ at (F .Tc) in
+      let a = tested (entryOf F .leastT) (entryOf F .Tc) t (and-l (finite (entryOf F .leastT)) (finite (entryOf F .Tc)) (ends-tested .0)) (and-r (finite (entryOf F .leastT)) (finite (entryOf F .Tc)) (ends-tested .0)) low high in
+      let x = a ⟨⊘⟩ at (entryOf F .Tc) in
       let h = at (real 1) ⟨⊖⟩ x in
       let (above, below) = lies-in (real 0) (real 1) finite-zero finite-one (ends-tested .2) h in
-      three-finite F t (estimatesOver F (belowCritical F) (thetas F) (lnOver (fromOn (two⁻ 54) (thetas F)))) (simp computed at ok)
+      three-finite F t (estimatesOver (entryOf F) (belowCritical (entryOf F)) (thetas (entryOf F)) (lnOver (fromOn (two⁻ 54) (thetas (entryOf F))))) (simp computed at ok)
       (estimates-in F t a h (λ e.
-      ⟨ln⟩ (difference-fits (real 1) (t ⊘ F .Tc))
-      (from-on-in (two⁻ 54) (real 1 ⊖ t ⊘ F .Tc) finite-two⁻54
-      (one-less (t ⊘ F .Tc) (quotient-fits t (F .Tc)) (in-known (ends-tested .1) x) (between-finite (real 0) (real 1 ⊖ t ⊘ F .Tc) (real 1) finite-zero finite-one above below) above e) h)))
+      ⟨ln⟩ (difference-fits (real 1) (t ⊘ entryOf F .Tc))
+      (from-on-in (two⁻ 54) (real 1 ⊖ t ⊘ entryOf F .Tc) finite-two⁻54
+      (one-less (t ⊘ entryOf F .Tc) (quotient-fits t (entryOf F .Tc)) (in-known (ends-tested .1) x) (between-finite (real 0) (real 1 ⊖ t ⊘ entryOf F .Tc) (real 1) finite-zero finite-one above below) above e) h)))

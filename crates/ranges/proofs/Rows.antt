@@ -17,7 +17,9 @@ use Rattle.arithmetic.proofs.Forced.{forced}
 use Rattle.arithmetic.proofs.Operations.{⊘-squashed}
 use Rattle.fluids.specs.declared.Term.{Term}
 use Rattle.fluids.specs.declared.Term.the-variants.{Plain, Damped, Bell}
-use Rattle.fluids.specs.Fluid.{Fluid}
+use Rattle.fluids.specs.declared.Fluid.{Fluid}
+use Rattle.fluids.specs.Entry.{Entry}
+use Rattle.fluids.specs.Entries.{entryOf}
 use Rattle.equation.specs.declared.rows.Row.{Row}
 use Rattle.equation.specs.declared.kept.Kept.{Kept}
 use Rattle.equation.specs.declared.sums.Sums.{Sums}
@@ -234,19 +236,19 @@ s1-to-in rows d u y (suc i) h powers bells p q =
     (s1-to-in rows d u y i (le-of-lt h) powers bells p q ⟨⊕⟩ times-q-in (termOver _ _ _ (getD rows i noTerm)) (rowOf _ _ rows powers bells i) (this-in rows d u y i h powers bells p q))
 
 -- ---- the sums of a state
-unfoldable pub sumsOver : Fluid → Interval → Interval → Interval → SumsOver
-sumsOver F Δ Θ Y = sumsToOver Δ Θ Y (F .rows) (length (F .rows))
+unfoldable pub sumsOver : Entry → Interval → Interval → Interval → SumsOver
+sumsOver E Δ Θ Y = sumsToOver Δ Θ Y (E .rows) (length (E .rows))
 
-pub sums-in : {Δ Θ Y : Interval} {δ : Float} (F : Fluid) (t : Float) → In Δ δ → In Θ (F .Tc ⊘ t) → In Y (lnOf (F .Tc ⊘ t)) → InSums (sumsOver F Δ Θ Y) (sumsAt F (keptOf F t) δ)
+pub sums-in : {Δ Θ Y : Interval} {δ : Float} (F : Fluid) (t : Float) → In Δ δ → In Θ (entryOf F .Tc ⊘ t) → In Y (lnOf (entryOf F .Tc ⊘ t)) → InSums (sumsOver (entryOf F) Δ Θ Y) (sumsAt (keptOf F t) δ)
 unfolding sumsOver sumsAt keptOf
-sums-in F t d u y = simp (forced, ⊘-squashed) (sums-to-in (F .rows) (squash-in d) u y (length (F .rows)) (le-refl _) _ _ refl refl)
+sums-in F t d u y = simp (forced, ⊘-squashed) (sums-to-in (entryOf F .rows) (squash-in d) u y (length (entryOf F .rows)) (le-refl _) _ _ refl refl)
 
-unfoldable pub s1Over : Fluid → Interval → Interval → Interval → Interval
-s1Over F Δ Θ Y = s1ToOver Δ Θ Y (F .rows) (length (F .rows))
+unfoldable pub s1Over : Entry → Interval → Interval → Interval → Interval
+s1Over E Δ Θ Y = s1ToOver Δ Θ Y (E .rows) (length (E .rows))
 
-pub s1-in : {Δ Θ Y : Interval} {δ : Float} (F : Fluid) (t : Float) → In Δ δ → In Θ (F .Tc ⊘ t) → In Y (lnOf (F .Tc ⊘ t)) → In (s1Over F Δ Θ Y) (sumsAt F (keptOf F t) δ .s1)
+pub s1-in : {Δ Θ Y : Interval} {δ : Float} (F : Fluid) (t : Float) → In Δ δ → In Θ (entryOf F .Tc ⊘ t) → In Y (lnOf (entryOf F .Tc ⊘ t)) → In (s1Over (entryOf F) Δ Θ Y) (sumsAt (keptOf F t) δ .s1)
 unfolding s1Over sumsAt keptOf
-s1-in F t d u y = simp (forced, ⊘-squashed) (s1-to-in (F .rows) (squash-in d) u y (length (F .rows)) (le-refl _) _ _ refl refl)
+s1-in F t d u y = simp (forced, ⊘-squashed) (s1-to-in (entryOf F .rows) (squash-in d) u y (length (entryOf F .rows)) (le-refl _) _ _ refl refl)
 
 -- S2 is a binary64
 s2-to-fits : (δ τ : Float) (rows : List Term) (powers bells : List Float) (i : ℕ) → T (fits binary64 (sumsTo δ τ rows powers bells i .s2))
@@ -254,6 +256,6 @@ unfolding sumsTo
 s2-to-fits δ τ rows powers bells zero = ofInt-fits binary64 (pos 0)
 s2-to-fits δ τ rows powers bells (suc i) = simp (sums-forced, row-forced) (sum-fits _ _)
 
-pub s2-fits : (F : Fluid) (k : Kept) (δ : Float) → T (fits binary64 (sumsAt F k δ .s2))
+pub s2-fits : (k : Kept) (δ : Float) → T (fits binary64 (sumsAt k δ .s2))
 unfolding sumsAt
-s2-fits F k δ = s2-to-fits _ _ (F .rows) _ _ (length (F .rows))
+s2-fits k δ = s2-to-fits _ _ (entryOf (k .fluid) .rows) _ _ (length (entryOf (k .fluid) .rows))

@@ -8,8 +8,11 @@ use lib.Ieee.Fits.{and-l, and-r}
 use lib.Ieee.Scale.{finite}
 use Rattle.arithmetic.specs.Checked.{real}
 use Rattle.arithmetic.proofs.Order.{lt-le-trans}
-use Rattle.fluids.specs.Fluid.{Fluid}
-use Rattle.values.specs.Values.{δ, sums, pressureValue}
+use Rattle.fluids.specs.declared.Fluid.{Fluid}
+use Rattle.fluids.specs.Entry.{Entry}
+use Rattle.fluids.specs.Entries.{entryOf}
+use Rattle.equation.specs.Kept.{stateAt, pressureValue}
+use Rattle.equation.proofs.Entry.{state-is}
 use Rattle.intervals.proofs.Fractions.{is-true, test-of-order}
 use Rattle.intervals.proofs.Interval.{Interval, unknown, ends, In, anything, inside, interval, tested, either-side, point, at, _▶_, computed}
 use Rattle.intervals.proofs.Sum.{_⊞_, _⟨⊕⟩_}
@@ -17,23 +20,24 @@ use Rattle.intervals.proofs.Product.{_⊠_, _⟨⊗⟩_}
 use Rattle.intervals.proofs.Quotient.{_÷_, _⟨⊘⟩_}
 use Rattle.intervals.proofs.Logarithm.{lnOver, ⟨ln⟩}
 use Rattle.ranges.proofs.Rows.{s1Over, s1-in}
-use Rattle.ranges.proofs.State.{pressure-is}
 use Rattle.intervals.proofs.Representable.{quotient-fits}
 
 -- ---- the pressure alone
-unfoldable pub pressureOver : Fluid → Interval → Interval → Interval
-pressureOver F Θ Ρ =
-    point (F .Tc) ÷ Θ ▶ λ U.
+unfoldable pub pressureOver : Entry → Interval → Interval → Interval
+pressureOver E Θ Ρ =
+    point (E .Tc) ÷ Θ ▶ λ U.
     lnOver U ▶ λ Y.
-    Ρ ÷ point (F .ρc) ▶ λ Δ.
-    ((Ρ ⊠ point (real 1000)) ⊠ (point (F .R) ⊠ Θ)) ⊠ (point (real 1) ⊞ s1Over F Δ U Y)
+    Ρ ÷ point (E .ρc) ▶ λ Δ.
+    ((Ρ ⊠ point (real 1000)) ⊠ (point (E .R) ⊠ Θ)) ⊠ (point (real 1) ⊞ s1Over E Δ U Y)
 
-pressure-in : {Θ Ρ : Interval} (F : Fluid) (t r : Float) → In Θ t → In Ρ r → In (pressureOver F Θ Ρ) (pressureValue F t r)
-unfolding pressureOver sums δ
+pressure-in : {Θ Ρ : Interval} (F : Fluid) (t r : Float) → In Θ t → In Ρ r → In (pressureOver (entryOf F) Θ Ρ) (pressureValue (stateAt F t r))
+unfolding pressureOver pressureValue
 pressure-in F t r a b =
-    let u = at (F .Tc) ⟨⊘⟩ a in
-    let y = ⟨ln⟩ (quotient-fits (F .Tc) t) u in
-    simp (computed, pressure-is) (((b ⟨⊗⟩ at (real 1000)) ⟨⊗⟩ (at (F .R) ⟨⊗⟩ a)) ⟨⊗⟩ (at (real 1) ⟨⊕⟩ s1-in F t (b ⟨⊘⟩ at (F .ρc)) u y))
+    let E = entryOf F in
+    let u = at (E .Tc) ⟨⊘⟩ a in
+    let y = ⟨ln⟩ (quotient-fits (E .Tc) t) u in
+    rw state-is
+    (simp computed (((b ⟨⊗⟩ at (real 1000)) ⟨⊗⟩ (at (E .R) ⟨⊗⟩ a)) ⟨⊗⟩ (at (real 1) ⟨⊕⟩ s1-in F t (b ⟨⊘⟩ at (E .ρc)) u y)))
 
 -- ---- above a value
 abbrev above : Float → Interval → Bool
@@ -47,17 +51,17 @@ above-in {x = x} c t (inside {l} {h} a) = lt-le-trans c l x (is-true (lt c l) t)
 -- ---- slices of temperature
 -- from lo to hi the pressure at the top is above every permitted one
 abbrev pub Rises : Fluid → Float → Float → Type 0
-Rises F lo hi = (t : Float) → T (finite t) → T (le lo t) → T (le t hi) → lt (F .greatestP) (pressureValue F t (F .greatestρ)) ≡ true
+Rises F lo hi = (t : Float) → T (finite t) → T (le lo t) → T (le t hi) → lt (entryOf F .greatestP) (pressureValue (stateAt F t (entryOf F .greatestρ))) ≡ true
 
 -- the computed test of one slice
-abbrev pub slice : Fluid → Float → Float → Bool
-slice F lo hi = (finite lo && finite hi) && above (F .greatestP) (pressureOver F (interval lo hi) (point (F .greatestρ)))
+abbrev pub slice : Entry → Float → Float → Bool
+slice E lo hi = (finite lo && finite hi) && above (E .greatestP) (pressureOver E (interval lo hi) (point (E .greatestρ)))
 
-pub slice-rises : (F : Fluid) (lo hi : Float) → T (slice F lo hi) → Rises F lo hi
+pub slice-rises : (F : Fluid) (lo hi : Float) → T (slice (entryOf F) lo hi) → Rises F lo hi
 slice-rises F lo hi s t f l h =
-    let e = and-l (finite lo && finite hi) (above (F .greatestP) (pressureOver F (interval lo hi) (point (F .greatestρ)))) s in
-    above-in (F .greatestP) (and-r (finite lo && finite hi) (above (F .greatestP) (pressureOver F (interval lo hi) (point (F .greatestρ)))) s)
-    (pressure-in F t (F .greatestρ) (tested lo hi t (and-l (finite lo) (finite hi) e) (and-r (finite lo) (finite hi) e) l h) (at (F .greatestρ)))
+    let e = and-l (finite lo && finite hi) (above (entryOf F .greatestP) (pressureOver (entryOf F) (interval lo hi) (point (entryOf F .greatestρ)))) s in
+    above-in (entryOf F .greatestP) (and-r (finite lo && finite hi) (above (entryOf F .greatestP) (pressureOver (entryOf F) (interval lo hi) (point (entryOf F .greatestρ)))) s)
+    (pressure-in F t (entryOf F .greatestρ) (tested lo hi t (and-l (finite lo) (finite hi) e) (and-r (finite lo) (finite hi) e) l h) (at (entryOf F .greatestρ)))
 
 -- two slices that meet
 pub joined : (F : Fluid) (lo c hi : Float) → T (finite c) → Rises F lo c → Rises F c hi → Rises F lo hi

@@ -4,11 +4,11 @@ use lib.Ieee.{Float}
 use Rattle.arithmetic.specs.Checked.{real}
 use Rattle.fluids.specs.declared.Term.{Term}
 use Rattle.fluids.specs.declared.Term.the-variants.{Plain, Damped, Bell}
-use Rattle.fluids.specs.Fluid.{Fluid}
+use Rattle.fluids.specs.Entry.{Entry}
 use Rattle.fluids.specs.R245ca.{r245ca}
 
 -- with another lower limit of temperature, greatest density, and rows
-abbrev varied : Float → Float → List Term → Fluid
+abbrev varied : Float → Float → List Term → Entry
 varied leastT greatestρ rows = record {
   Tc = r245ca .Tc;
   ρc = r245ca .ρc;
@@ -40,13 +40,13 @@ lastβ β' (Bell N t d η β γ ε ∷ []) = Bell N t d η β' γ ε ∷ []
 lastβ β' (Bell N t d η β γ ε ∷ next ∷ rows) = Bell N t d η β γ ε ∷ lastβ β' (next ∷ rows)
 
 -- a lower limit of 100 K
-abbrev pub colder : Fluid
+abbrev pub colder : Entry
 colder = varied (real 100) (r245ca .greatestρ) (r245ca .rows)
 
 -- a β of 3,790 in row 14, ten times as large
-abbrev pub steeper : Fluid
+abbrev pub steeper : Entry
 steeper = varied (r245ca .leastT) (r245ca .greatestρ) (lastβ (real 3790) (r245ca .rows))
 
 -- a greatest density of 10 mol/dm³
-abbrev pub thinner : Fluid
+abbrev pub thinner : Entry
 thinner = varied (r245ca .leastT) (real 10) (r245ca .rows)

@@ -1,3 +1,1 @@
-pub mod HandedOut
-pub mod Theorems
 pub mod Whole

@@ -4,7 +4,7 @@ use lib.Ieee.{Float}
 use Rattle.refusals.specs.declared.Permit.the-variants.{Granted}
 use Rattle.refusals.proofs.Needed.{test-passed}
 use Rattle.arithmetic.proofs.Operations.{squash-finite}
-use Rattle.fluids.specs.Fluid.{Fluid}
+use Rattle.fluids.specs.declared.Fluid.{Fluid}
 use Rattle.fluids.specs.Finite.{Finite}
 use Rattle.inputs.specs.Inputs.{saturationPermit}
 

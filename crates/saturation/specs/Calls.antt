@@ -3,9 +3,9 @@ use lib.Ieee.{Float}
 use Rattle.refusals.specs.declared.Answer.{Answer}
 use Rattle.refusals.specs.Order.{permitted}
 use Rattle.arithmetic.specs.Answered.{answerFrom}
-use Rattle.fluids.specs.Fluid.{Fluid}
+use Rattle.fluids.specs.declared.Fluid.{Fluid}
 use Rattle.inputs.specs.Inputs.{saturationPermit}
-use Rattle.saturation.specs.declared.estimates.Curve.{Curve}
+use Rattle.fluids.specs.declared.Curve.{Curve}
 use Rattle.saturation.specs.Estimates.{estimateOf, pressureEstimate, liquidEstimate, vapourEstimate}
 
 module _ (F : Fluid) (T : Float) where

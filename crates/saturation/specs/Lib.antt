@@ -1,2 +1,3 @@
 pub mod Estimates
+pub mod Table
 pub mod Calls

@@ -1,26 +1,17 @@
 // The estimates of 01, term by term. ln θ is worked once.
 use elementary::ln;
 use exponentials::exp;
+use fluids::Curve;
 use fluids::Estimate;
+use fluids::Fluid;
 ghost use mathlib.Core.Path.{_≡_};
 ghost use Prim.Native.Nat.{_+_, _≤_};
-ghost use lib.Ieee.{nan};
-ghost use lib.ListN.{getD};
 ghost use Rattle.arithmetic.specs.Checked.{squash};
-ghost use Rattle.arithmetic.specs.Lanes.{atEach};
 ghost use Rattle.elementary.specs.Ln.{lnOf};
 ghost use Rattle.elementary.specs.Power.{powerOf};
-ghost use Rattle.fluids.specs.declared.Estimate.the-variants.{Alone};
-ghost use Rattle.fluids.specs.R245ca.{r245ca};
 ghost use Rattle.fluids.specs.Finite.{Finite, FiniteEstimate};
 ghost use Rattle.saturation.specs.Estimates as Estimates;
-
-// The three estimates.
-pub(crate) enum Curve {
-    Pressure,
-    Liquid,
-    Vapour,
-}
+ghost use Rattle.saturation.specs.Table.{Table};
 
 // θ to the power t: exp(t·ln θ), and 0 for θ = 0.
 fn raised(theta: f64, y: f64, t: f64) -> f64
@@ -45,7 +36,7 @@ fn term_value(term: Estimate, theta: f64, y: f64) -> f64
 
 // `first` and the `count` terms from the place `from` on, one after the other.
 fn sum_of(terms: [Estimate; 5], first: f64, from: usize, count: usize, theta: f64, y: f64) -> f64
-    requires { ⌜ atEach 5 (λ i. FiniteEstimate (getD terms i (Alone nan))) × (y ≡ lnOf theta) × (from + count ≤ 5) ⌝ }
+    requires { ⌜ Table terms × (y ≡ lnOf theta) × (from + count ≤ 5) ⌝ }
     ensures { λ r. ⌜ squash r ≡ Estimates.plusTerms (squash theta) terms (squash first) from count ⌝ }
 {
     let mut sum = first;
@@ -59,41 +50,45 @@ fn sum_of(terms: [Estimate; 5], first: f64, from: usize, count: usize, theta: f6
     sum
 }
 
-// Four terms in a table of five: the fourth stands twice.
-fn padded(terms: [Estimate; 4]) -> [Estimate; 5]
-    ensures { λ r. ⌜ r ≡ Estimates.padded terms ⌝ }
+// The first of the `count` terms, and those after it.
+fn from_first(terms: [Estimate; 5], count: usize, theta: f64, y: f64) -> f64
+    requires { ⌜ Table terms × (y ≡ lnOf theta) × (1 ≤ count) × (count ≤ 5) ⌝ }
+    ensures { λ r. ⌜ squash r ≡ Estimates.fromFirst (squash theta) terms count ⌝ }
 {
-    let first = terms[0];
-    let second = terms[1];
-    let third = terms[2];
-    let fourth = terms[3];
-    [first, second, third, fourth, fourth]
+    let term = terms[0];
+    let first = term_value(term, theta, y);
+    sum_of(terms, first, 1, count - 1, theta, y)
+}
+
+// The sum of a curve's terms; the liquid's begins with 1.
+fn series_of(fluid: Fluid, curve: Curve, theta: f64, y: f64) -> f64
+    requires { ⌜ y ≡ lnOf theta ⌝ }
+    ensures { λ r. ⌜ squash r ≡ Estimates.seriesOf fluid (squash theta) curve ⌝ }
+{
+    let terms = fluids::estimate_terms(fluid, curve);
+    let count = fluids::estimate_count(fluid, curve);
+    match curve {
+        Curve::Pressure => from_first(terms, count, theta, y),
+        Curve::Liquid => sum_of(terms, 1.0, 0, count, theta, y),
+        Curve::Vapour => from_first(terms, count, theta, y),
+    }
 }
 
 // The estimate of a curve at T.
-pub(crate) fn value_of(curve: Curve, t: f64) -> f64
+pub(crate) fn value_of(fluid: Fluid, curve: Curve, t: f64) -> f64
     requires { ⌜ Finite t ⌝ }
-    ensures { λ r. ⌜ squash r ≡ Estimates.estimateOf r245ca t curve ⌝ }
+    ensures { λ r. ⌜ squash r ≡ Estimates.estimateOf fluid t curve ⌝ }
 {
-    let numbers = fluids::single_numbers();
+    let numbers = fluids::single_numbers(fluid);
     let critical = numbers.critical_temperature;
     let highest = numbers.critical_pressure;
     let density = numbers.critical_density;
     let theta = 1.0 - t / critical;
     let y = ln(theta);
+    let series = series_of(fluid, curve, theta, y);
     match curve {
-        Curve::Pressure => {
-            let terms = padded(fluids::pressure_estimate());
-            let term = terms[0];
-            let first = term_value(term, theta, y);
-            highest * exp((critical / t) * sum_of(terms, first, 1, 3, theta, y))
-        },
-        Curve::Liquid => density * sum_of(fluids::liquid_estimate(), 1.0, 0, 5, theta, y),
-        Curve::Vapour => {
-            let terms = fluids::vapour_estimate();
-            let term = terms[0];
-            let first = term_value(term, theta, y);
-            density * exp(sum_of(terms, first, 1, 4, theta, y))
-        },
+        Curve::Pressure => highest * exp((critical / t) * series),
+        Curve::Liquid => density * series,
+        Curve::Vapour => density * exp(series),
     }
 }

@@ -7,6 +7,7 @@ use mathlib.Core.Bool.{false}
 use lib.Dec.{lit<, lit≤}
 use lib.Pow.{shl-lt}
 use lib.Ieee.{Float, binary64, mul, ofInt, round}
+use Rattle.fluids.specs.Entry.{mostCells}
 use lib.Ieee.Exact.{HasValue, round-exact}
 use lib.Ieee.Positive.{mul-at, positive-of-value}
 use Rattle.arithmetic.specs.Checked.{real, two⁻}
@@ -29,7 +30,7 @@ exact (suc n) h =
     ∙ ap (λ (z : ℕ). round binary64 false z (2 ^ 30)) (mul-one k)))
     (round-exact binary64 false k (2 ^ 30) k 1044 (lit< tt) h (lt-of-lt-of-le (shl-lt 53 1044 h) (lit≤ tt)) (sym (mul-assoc k (2 ^ 1044) (2 ^ 30))))
 
-pub step-exact : (k : ℕ) → k ≤ endStep 2048 → HasValue (stepDensityOf k) false k (2 ^ 30)
+pub step-exact : (k : ℕ) → k ≤ endStep mostCells → HasValue (stepDensityOf k) false k (2 ^ 30)
 step-exact k h = exact k (omega arith)
 
 -- step 0 is density +0

@@ -5,7 +5,7 @@ use Prim.Native.Nat.{ℕ}
 use lib.Ieee.{Float, nan, inf, fin, isNan}
 use lib.Ieee.Scale.{finite}
 use Rattle.arithmetic.specs.Checked.{squash}
-use Rattle.fluids.specs.R245ca.{r245ca}
+use Rattle.fluids.specs.declared.Fluid.{Fluid}
 use Rattle.equation.specs.Kept.{keptOf}
 use Rattle.equation.proofs.Laws.{pressure-squashed}
 use Rattle.steps.specs.Steps.{stepDensityOf, stepPressureOf}
@@ -17,6 +17,6 @@ squashed-number nan e = refl
 squashed-number (inf s) e = cc
 squashed-number (fin s m e) h = refl
 
-pub gives-twelve-is-not-finite : (t : Float) (k : ℕ) → isNan (pressuresOf t k) ≡ not (finite (pressuresOf t k))
+pub gives-twelve-is-not-finite : (F : Fluid) (t : Float) (k : ℕ) → isNan (pressuresOf F t k) ≡ not (finite (pressuresOf F t k))
 unfolding stepPressureOf
-gives-twelve-is-not-finite t k = squashed-number (pressuresOf t k) (pressure-squashed r245ca (keptOf r245ca t) (stepDensityOf k))
+gives-twelve-is-not-finite F t k = squashed-number (pressuresOf F t k) (pressure-squashed (keptOf F t) (stepDensityOf k))

@@ -4,7 +4,8 @@ use Prim.Native.Nat.{ℕ}
 use lib.Dec.{leb}
 use lib.Ieee.{Float, nan, binary64, mul}
 use Rattle.arithmetic.specs.Checked.{real, two⁻}
-use Rattle.fluids.specs.R245ca.{r245ca}
+use Rattle.fluids.specs.declared.Fluid.{Fluid}
+use Rattle.fluids.specs.Entry.{mostCells}
 use Rattle.equation.specs.declared.kept.Kept.{Kept}
 use Rattle.equation.specs.Kept.{keptOf, pressureAt}
 use Rattle.search.specs.Plain.{endStep}
@@ -15,16 +16,16 @@ stepDensityOf k = mul binary64 (real k) (two⁻ 30)
 
 -- the pressure at the step k of a kept temperature, in Pa; `nan` where 01 owes 12
 unfoldable pub stepPressureOf : Kept → ℕ → Float
-stepPressureOf kept k = pressureAt r245ca kept (stepDensityOf k)
+stepPressureOf kept k = pressureAt kept (stepDensityOf k)
 
--- the pressures at the steps of the temperature t
-abbrev pub pressuresOf : Float → ℕ → Float
-pressuresOf t = stepPressureOf (keptOf r245ca t)
+-- the pressures of a fluid at the steps of the temperature t
+abbrev pub pressuresOf : Fluid → Float → ℕ → Float
+pressuresOf F t = stepPressureOf (keptOf F t)
 
--- ---- no fluid has more than 2048 cells: what the code gives for a step or an end beyond them is `nan`
+-- ---- no fluid has more than the most cells: what the code gives for a step or an end beyond them is `nan`
 
 unfoldable pub inSteps : ℕ → Float → Float
-inSteps k x = cond (leb k (endStep 2048)) x nan
+inSteps k x = cond (leb k (endStep mostCells)) x nan
 
 unfoldable pub inEnds : ℕ → Float → Float
-inEnds j x = cond (leb j 2048) x nan
+inEnds j x = cond (leb j mostCells) x nan

@@ -1,17 +1,21 @@
 // 01, "Density steps are k·2⁻³⁰, exact": the density of a step, and the pressures at steps and at coarse ends.
 //
-// For formulas: no fluid has more than 2,048 cells, and beyond them each of these is one NaN.
+// For formulas: no fluid has more than MOST_CELLS cells, and beyond them each of these is one NaN.
 use equation::Kept;
 use equation::pressure_at;
+use fluids::MOST_CELLS;
 ghost use mathlib.Core.Path.{_≡_};
 ghost use Rattle.search.specs.Plain.{atEnds};
 ghost use Rattle.steps.specs.Steps.{inSteps, inEnds, stepDensityOf, stepPressureOf};
+
+// A cell is 2²³ steps.
+const MOST_STEPS: usize = MOST_CELLS * 8388608;
 
 // k·2⁻³⁰, in mol/dm³.
 pub fn step_density(k: usize) -> f64
     ensures { λ r. ⌜ r ≡ inSteps k (stepDensityOf k) ⌝ }
 {
-    if k <= 17179869184 {
+    if k <= MOST_STEPS {
         let whole = k as f64;
         return whole * 9.313225746154785e-10;
     }
@@ -22,7 +26,7 @@ pub fn step_density(k: usize) -> f64
 pub fn step_pressure(kept: Kept, k: usize) -> f64
     ensures { λ r. ⌜ r ≡ inSteps k (stepPressureOf kept k) ⌝ }
 {
-    if k <= 17179869184 {
+    if k <= MOST_STEPS {
         let rho = step_density(k);
         return pressure_at(kept, rho);
     }
@@ -33,7 +37,7 @@ pub fn step_pressure(kept: Kept, k: usize) -> f64
 pub fn end_pressure(kept: Kept, j: usize) -> f64
     ensures { λ r. ⌜ r ≡ inEnds j (atEnds (stepPressureOf kept) j) ⌝ }
 {
-    if j <= 2048 {
+    if j <= MOST_CELLS {
         let k = j * 8388608;
         return step_pressure(kept, k);
     }

@@ -1,82 +1,73 @@
--- 01, "With V, K, Q": the nine properties at T and ρ, `nan` where 12 is owed.
+-- 01, "With V, K, Q": the properties of a state, `nan` where 12 is owed; the pressure is equation/specs/Kept.antt's.
 use lib.Ieee.{Float}
-use Rattle.arithmetic.specs.Checked.{real, _⊕_, _⊖_, _⊗_, _⊘_}
-use Rattle.elementary.specs.Ln.{lnOf}
+use Rattle.arithmetic.specs.Checked.{real, squash, _⊕_, _⊖_, _⊗_, _⊘_}
 use Rattle.elementary.specs.Root.{rootOf}
-use Rattle.fluids.specs.Fluid.{Fluid}
-use Rattle.equation.specs.declared.sums.Sums.{Sums}
-use Rattle.equation.specs.Kept.{keptOf, sumsAt, pressureAt}
+use Rattle.fluids.specs.Entries.{entryOf}
+use Rattle.equation.specs.declared.state.State.{State}
 use Rattle.ideal.specs.Ideal.{I0, I1, I2}
 use Rattle.values.specs.declared.Stability.{Stability}
 
--- R·(V + K·K/Q)
-abbrev pub isobaricFrom : Fluid → Float → Float → Float → Float
-isobaricFrom F v k q = F .R ⊗ (v ⊕ k ⊗ k ⊘ q)
+-- R·(V + K·K/Q); a divisor that is not finite counts as `nan`
+unfoldable pub isobaricFrom : Stability → Float
+isobaricFrom w = entryOf (w .fluid) .R ⊗ (w .v ⊕ w .k ⊗ w .k ⊘ squash (w .q))
 
 -- root((R·T)/M·(Q + K·K/V))
-abbrev pub soundSpeedFrom : Fluid → Float → Float → Float → Float → Float
-soundSpeedFrom F T v k q = rootOf ((F .R ⊗ T) ⊘ F .M ⊗ (q ⊕ k ⊗ k ⊘ v))
+unfoldable pub soundSpeedFrom : Stability → Float
+soundSpeedFrom w = rootOf ((entryOf (w .fluid) .R ⊗ w .t) ⊘ entryOf (w .fluid) .M ⊗ (w .q ⊕ w .k ⊗ w .k ⊘ squash (w .v)))
 
-module _ (F : Fluid) (T ρ : Float) where
-  -- τ = Tc/T, δ = ρ/ρc, the six sums, and the ideal part
-  unfoldable pub τ : Float
-  τ = F .Tc ⊘ T
-
-  unfoldable pub δ : Float
-  δ = ρ ⊘ F .ρc
-
-  unfoldable pub sums : Sums
-  sums = sumsAt F (keptOf F T) δ
-
+module _ (s : State) where
+  -- the ideal part
   unfoldable pub i0 : Float
-  i0 = I0 F T τ (lnOf τ) δ
+  i0 = I0 (s .fluid) (s .t) (s .tau) (s .«ln_tau») (s .delta)
 
   unfoldable pub i1 : Float
-  i1 = I1 F T τ
+  i1 = I1 (s .fluid) (s .t) (s .tau)
 
   -- V = I2 − T2, K = 1 + S1 − ST, Q = 1 + 2·S1 + S2
   unfoldable pub «V» : Float
-  «V» = I2 F T ⊖ sums .t2
+  «V» = I2 (s .fluid) (s .t) ⊖ s .sums .t2
 
   unfoldable pub K : Float
-  K = real 1 ⊕ sums .s1 ⊖ sums .st
+  K = real 1 ⊕ s .sums .s1 ⊖ s .sums .st
 
   unfoldable pub Q : Float
-  Q = real 1 ⊕ real 2 ⊗ sums .s1 ⊕ sums .s2
+  Q = real 1 ⊕ real 2 ⊗ s .sums .s1 ⊕ s .sums .s2
 
   unfoldable pub stabilityOf : Stability
-  stabilityOf = record { v = «V»; k = K; q = Q }
-
-  -- ((ρ·1000)·(R·T))·(1 + S1)
-  unfoldable pub pressureValue : Float
-  pressureValue = pressureAt F (keptOf F T) ρ
+  stabilityOf = record { fluid = s .fluid; t = s .t; v = «V»; k = K; q = Q }
 
   -- (R·T)·(I1 + T1)
   unfoldable pub energyValue : Float
-  energyValue = (F .R ⊗ T) ⊗ (i1 ⊕ sums .t1)
+  energyValue = (entryOf (s .fluid) .R ⊗ s .t) ⊗ (i1 ⊕ s .sums .t1)
 
   -- (R·T)·(I1 + T1 + S1 + 1)
   unfoldable pub enthalpyValue : Float
-  enthalpyValue = (F .R ⊗ T) ⊗ (i1 ⊕ sums .t1 ⊕ sums .s1 ⊕ real 1)
+  enthalpyValue = (entryOf (s .fluid) .R ⊗ s .t) ⊗ (i1 ⊕ s .sums .t1 ⊕ s .sums .s1 ⊕ real 1)
 
   -- R·V
   unfoldable pub isochoricValue : Float
-  isochoricValue = F .R ⊗ «V»
+  isochoricValue = entryOf (s .fluid) .R ⊗ «V»
 
   -- R·(I1 + T1 − I0 − S0)
   unfoldable pub entropyValue : Float
-  entropyValue = F .R ⊗ (i1 ⊕ sums .t1 ⊖ i0 ⊖ sums .s0)
+  entropyValue = entryOf (s .fluid) .R ⊗ (i1 ⊕ s .sums .t1 ⊖ i0 ⊖ s .sums .s0)
+
+  -- 1 + I0 + S0 + S1
+  unfoldable pub gibbsOverRT : Float
+  gibbsOverRT = real 1 ⊕ i0 ⊕ s .sums .s0 ⊕ s .sums .s1
 
   -- (R·T)·(1 + I0 + S0 + S1)
   unfoldable pub gibbsValue : Float
-  gibbsValue = (F .R ⊗ T) ⊗ (real 1 ⊕ i0 ⊕ sums .s0 ⊕ sums .s1)
+  gibbsValue = (entryOf (s .fluid) .R ⊗ s .t) ⊗ gibbsOverRT
 
   -- (R·T)·(I0 + S0)
   unfoldable pub helmholtzValue : Float
-  helmholtzValue = (F .R ⊗ T) ⊗ (i0 ⊕ sums .s0)
+  helmholtzValue = (entryOf (s .fluid) .R ⊗ s .t) ⊗ (i0 ⊕ s .sums .s0)
 
+  -- R·(V + K·K/Q)
   unfoldable pub isobaricValue : Float
-  isobaricValue = isobaricFrom F «V» K Q
+  isobaricValue = isobaricFrom stabilityOf
 
+  -- root((R·T)/M·(Q + K·K/V))
   unfoldable pub soundSpeedValue : Float
-  soundSpeedValue = soundSpeedFrom F T «V» K Q
+  soundSpeedValue = soundSpeedFrom stabilityOf

@@ -1,9 +1,9 @@
 // The calls for C, thin over the crates that do the work: include/verriblom.h says what each is asked and answers.
-use records::answer_into;
+use questions::answer_into;
 ghost use mathlib.Core.Path.{_≡_};
-ghost use Rattle.records.specs.Call.{callCode, callOutput};
+ghost use Rattle.questions.specs.Call.{callCode, callOutput};
 
-// Answers a record of exactly 18 bytes, with c = 1,664 where it searches: 0, and the bits of the pressure in Pa or of the
+// Answers a record of exactly 18 bytes, up to the fluid's own top where it searches: 0, and the bits of the pressure in Pa or of the
 // density in mol/dm³ in the first eight bytes of out, the lowest first; or the refusal's number, and out as it was.
 #[no_mangle]
 pub extern "C" fn verriblom_answer(marked: &[u8], out: &mut [u8]) -> u32

@@ -6,37 +6,6 @@ use Rattle.lines.proofs.Printed.{lines-inside}
 use borrow.Author.Needs.{needs}
 use Rattle.answers.proofs.block.Statement.{statement}
 use Rattle.answers.proofs.block.Tie as tie
-use Rattle.answers.proofs.block.Reads as reads
-use Rattle.answers.proofs.block.Lts as lts
-use Rattle.answers.proofs.line_block.Reads as line-block-reads
-use Rattle.answers.proofs.record_block.Reads as record-block-reads
-use Rattle.io.proofs.read_full.Reads as read-full-reads
-use Rattle.answers.proofs.print.Reads as print-reads
-use Rattle.lines.proofs.put_lines.Reads as put-lines-reads
-
-record-block-requires : tie.Need-record-block-requires
-record-block-requires c κs = search needs
-
-line-block-requires : tie.Need-line-block-requires
-line-block-requires c κs = search needs
-
-slice-aggregate-read-full : tie.Need-slice-aggregate-read-full
-slice-aggregate-read-full c = search needs
-
-read-full-requires : tie.Need-read-full-requires
-read-full-requires c κs = search needs
-
-array-share-prefix-input : tie.Need-array-share-prefix-input
-array-share-prefix-input c = search needs
-
-slice-aggregate-put-lines : tie.Need-slice-aggregate-put-lines
-slice-aggregate-put-lines c = search needs
-
-slice-aggregate-put-lines-2 : tie.Need-slice-aggregate-put-lines-2
-slice-aggregate-put-lines-2 c = search needs
-
-put-lines-requires : tie.Need-put-lines-requires
-put-lines-requires c κs = search needs
 
 array-share-prefix-out : tie.Need-array-share-prefix-out
 array-share-prefix-out c =
@@ -48,9 +17,6 @@ slice-aggregate-print c =
     let printed = c .before .before .put-lines .ensures in
     sym (length-take-le _ _ (lines-inside _ _ _ _ _ (printed .0) (printed .1)))
 
-print-requires : tie.Need-print-requires
-print-requires c κs = search needs
-
 returns : tie.Need-returns
 returns c = search needs
 
@@ -61,16 +27,16 @@ pub block-spec : {M : Type 1} → statement M
 block-spec =
     tie.close
     (tie.spec
-    record-block-requires
-    line-block-requires
-    slice-aggregate-read-full
-    read-full-requires
-    array-share-prefix-input
-    slice-aggregate-put-lines
-    slice-aggregate-put-lines-2
-    put-lines-requires
+    (λ c κs. search needs)
+    (λ c κs. search needs)
+    (λ c. search needs)
+    (λ c κs. search needs)
+    (λ c. search needs)
+    (λ c. search needs)
+    (λ c. search needs)
+    (λ c κs. search needs)
     array-share-prefix-out
     slice-aggregate-print
-    print-requires
+    (λ c κs. search needs)
     returns
     returns-2)

@@ -3,33 +3,12 @@ use Prim.Native.Nat.{_+_, _-_, _*_, _≤_}
 use borrow.Author.Needs.{needs}
 use Rattle.answers.proofs.blocks.Statement.{statement}
 use Rattle.answers.proofs.blocks.Tie as tie
-use Rattle.answers.proofs.blocks.Reads as reads
-use Rattle.answers.proofs.blocks.Lts as lts
-use Rattle.answers.proofs.block.Reads as block-reads
 
 abbrev Inv-loop : tie.InvT-loop
 Inv-loop fd first₀ turns₀ first turns = (turns ≤ 1099511627776) × (first ≤ 1 + 3640 * turns)
 
 abbrev μ-loop : tie.MeasureT-loop
 μ-loop fd first₀ turns₀ first turns = 1099511627776 - turns
-
-loop-holds : tie.Need-loop-holds Inv-loop μ-loop
-loop-holds c = search needs
-
-block-requires : tie.Need-block-requires Inv-loop μ-loop
-block-requires c κs = search needs
-
-add-first : tie.Need-add-first Inv-loop μ-loop
-add-first c = search needs
-
-add-turns : tie.Need-add-turns Inv-loop μ-loop
-add-turns c = search needs
-
-loop-less : tie.Need-loop-less Inv-loop μ-loop
-loop-less c = search needs
-
-loop-again : tie.Need-loop-again Inv-loop μ-loop
-loop-again c = search needs
 
 returns : tie.Need-returns Inv-loop μ-loop
 returns c = search needs
@@ -43,11 +22,11 @@ blocks-spec =
     (tie.spec
     Inv-loop
     μ-loop
-    loop-holds
-    block-requires
-    add-first
-    add-turns
-    loop-less
-    loop-again
+    (λ c. search needs)
+    (λ c κs. search needs)
+    (λ c. search needs)
+    (λ c. search needs)
+    (λ c. search needs)
+    (λ c. search needs)
     returns
     returns-2)

@@ -9,7 +9,7 @@ use borrow.Author.Needs.{needs}
 use lib.Ieee.{Float, nan, binary64, add}
 use lib.ListN.{length, getD}
 use Rattle.arithmetic.proofs.Literals.{lit-0}
-use Rattle.fluids.specs.R245ca.{r245ca}
+use Rattle.fluids.specs.declared.Fluid.the-variants.{R245ca}
 use Rattle.equation.specs.Kept.{pressureAt}
 use Rattle.equation.specs.declared.kept.Kept.{Kept}
 use Rattle.bench.specs.Doors.{totalTo}
@@ -23,7 +23,7 @@ unfolding totalTo
 total-turn f xs i s x p q = rw (add-one, p, q)
 
 abbrev Inv-loop : tie.InvT-loop
-Inv-loop t densities kept total₀ i₀ total i = (i ≤ length densities) × (total ≡ totalTo (pressureAt r245ca kept) densities i)
+Inv-loop t densities kept total₀ i₀ total i = (i ≤ length densities) × (total ≡ totalTo (pressureAt kept) densities i)
 
 abbrev μ-loop : tie.MeasureT-loop
 μ-loop t densities kept total₀ i₀ total i = length densities - i
@@ -45,7 +45,7 @@ returns c =
     let all : at .loop .i ≡ length densities = omega arith in
     at .loop .inv .1
     ∙ ap (totalTo _ densities) all
-    ∙ ap (λ (k : Kept). totalTo (pressureAt r245ca k) densities (length densities)) (at .before .keep .ensures)
+    ∙ ap (λ (k : Kept). totalTo (pressureAt k) densities (length densities)) (at .before .keep .ensures)
 
 pub bench-isotherm-spec : {M : Type 1} → statement M
 bench-isotherm-spec =

@@ -6,13 +6,14 @@ use search::Located;
 use steps::end_pressure;
 ghost use mathlib.Core.Path.{_≡_};
 ghost use Prim.Native.Nat.{_≤_};
+ghost use Rattle.fluids.specs.Entry.{mostCells};
 ghost use Rattle.search.specs.Plain.{atEnds, cellFromBelow, cellFromAbove};
 ghost use Rattle.steps.specs.Steps.{stepPressureOf};
 ghost use Rattle.density.specs.Calls.{plainCellOf};
 
 // Visits ends 1, 2, .. and stops at the first with a pressure above p; the cell is the one before it.
 fn cell_from_below(kept: Kept, p: f64, c: usize) -> Located
-    requires { ⌜ c ≤ 2048 ⌝ }
+    requires { ⌜ c ≤ mostCells ⌝ }
     ensures { λ r. ⌜ r ≡ cellFromBelow (atEnds (stepPressureOf kept)) p c ⌝ }
 {
     let mut j = 0;
@@ -35,7 +36,7 @@ fn cell_from_below(kept: Kept, p: f64, c: usize) -> Located
 
 // Refuses where the pressure at c is ≤ p; else visits c − 1 downwards and stops at the first with a pressure ≤ p.
 fn cell_from_above(kept: Kept, p: f64, c: usize) -> Located
-    requires { ⌜ c ≤ 2048 ⌝ }
+    requires { ⌜ c ≤ mostCells ⌝ }
     ensures { λ r. ⌜ r ≡ cellFromAbove (atEnds (stepPressureOf kept)) p c ⌝ }
 {
     let top = end_pressure(kept, c);
@@ -64,7 +65,7 @@ fn cell_from_above(kept: Kept, p: f64, c: usize) -> Located
 
 // The plain search for the cell, by the side.
 pub(crate) fn plain_cell(kept: Kept, p: f64, c: usize, side: Side) -> Located
-    requires { ⌜ c ≤ 2048 ⌝ }
+    requires { ⌜ c ≤ mostCells ⌝ }
     ensures { λ r. ⌜ r ≡ plainCellOf side (atEnds (stepPressureOf kept)) p c ⌝ }
 {
     match side {

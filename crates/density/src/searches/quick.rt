@@ -7,6 +7,7 @@ use steps::end_pressure;
 ghost use mathlib.Core.Path.{_≡_};
 ghost use Prim.Native.Nat.{_<_, _≤_};
 ghost use lib.ListN.{length};
+ghost use Rattle.fluids.specs.Entry.{mostCells};
 ghost use Rattle.search.specs.Plain.{atEnds};
 ghost use Rattle.search.specs.Quick.{entriesOf, above, halvedPlaces, enclosing as enclosingOf, quickCell};
 ghost use Rattle.steps.specs.Steps.{stepPressureOf};
@@ -14,7 +15,7 @@ ghost use Rattle.density.specs.Calls.{quickCellOf};
 
 // While b − a > 1, the middle becomes b if its entry is above p, else a; the answer is a.
 fn halve_places(list: &[f64], p: f64, c: usize) -> usize
-    requires { ⌜ (c ≤ 2048) × (c < length (now list)) ⌝ }
+    requires { ⌜ (c ≤ mostCells) × (c < length (now list)) ⌝ }
     ensures { λ r. ⌜ r ≡ halvedPlaces (above p (entriesOf (now (list .entry)))) c 0 c ⌝ }
 {
     let mut a = 0;
@@ -32,7 +33,7 @@ fn halve_places(list: &[f64], p: f64, c: usize) -> usize
 
 // The cell a where the equation's pressures at its ends enclose p, else 16; 12 if either end gives it.
 fn enclosing(kept: Kept, p: f64, a: usize) -> Located
-    requires { ⌜ a < 2048 ⌝ }
+    requires { ⌜ a < mostCells ⌝ }
     ensures { λ r. ⌜ r ≡ enclosingOf (atEnds (stepPressureOf kept)) p a ⌝ }
 {
     let low = end_pressure(kept, a);
@@ -54,7 +55,7 @@ fn enclosing(kept: Kept, p: f64, a: usize) -> Located
 
 // 8 where place c is not above p; else the cell that halving the places 0..c finds.
 fn quick_cell(kept: Kept, p: f64, c: usize, list: &[f64]) -> Located
-    requires { ⌜ (1 ≤ c) × (c ≤ 2048) × (c < length (now list)) ⌝ }
+    requires { ⌜ (1 ≤ c) × (c ≤ mostCells) × (c < length (now list)) ⌝ }
     ensures { λ r. ⌜ r ≡ quickCell (entriesOf (now (list .entry))) (atEnds (stepPressureOf kept)) p c ⌝ }
 {
     if list[c] > p {
@@ -74,7 +75,7 @@ pub(crate) fn quick_cell_by_side(
     greatest: &[f64],
     least: &[f64],
 ) -> Located
-    requires { ⌜ (1 ≤ c) × (c ≤ 2048) × (c < length (now greatest)) × (c < length (now least)) ⌝ }
+    requires { ⌜ (1 ≤ c) × (c ≤ mostCells) × (c < length (now greatest)) × (c < length (now least)) ⌝ }
     ensures { λ r. ⌜ r ≡ quickCellOf side (now (greatest .entry)) (now (least .entry)) (stepPressureOf kept) p c ⌝ }
 {
     match side {

@@ -11,16 +11,6 @@ use Rattle.arithmetic.proofs.Literals.{lit-1, squash-1}
 use Rattle.ideal.specs.Ideal.{part0}
 use Rattle.ideal.proofs.part0.Statement.{statement}
 use Rattle.ideal.proofs.part0.Tie as tie
-use Rattle.ideal.proofs.part0.Reads as reads
-use Rattle.ideal.proofs.part0.Lts as lts
-use Rattle.exponentials.proofs.exp.Reads as exp-reads
-use Rattle.elementary.proofs.ln.Reads as ln-reads
-
-exp-requires : tie.Need-exp-requires
-exp-requires c κs = search needs
-
-ln-requires : tie.Need-ln-requires
-ln-requires c κs = search needs
 
 returns : tie.Need-returns
 unfolding part0
@@ -35,4 +25,4 @@ returns c =
     simp (squash-mul, logged, ln-squashed, start .pre .0)
 
 pub part0-spec : {M : Type 1} → statement M
-part0-spec = tie.close (tie.spec exp-requires ln-requires returns)
+part0-spec = tie.close (tie.spec (λ c κs. search needs) (λ c κs. search needs) returns)

@@ -11,16 +11,6 @@ use Rattle.arithmetic.proofs.Literals.{lit-1, squash-1}
 use Rattle.ideal.specs.Ideal.{part2}
 use Rattle.ideal.proofs.part2.Statement.{statement}
 use Rattle.ideal.proofs.part2.Tie as tie
-use Rattle.ideal.proofs.part2.Reads as reads
-use Rattle.ideal.proofs.part2.Lts as lts
-use Rattle.exponentials.proofs.exp.Reads as exp-reads
-use Rattle.arithmetic.proofs.over.Reads as over-reads
-
-exp-requires : tie.Need-exp-requires
-exp-requires c κs = search needs
-
-over-requires : tie.Need-over-requires
-over-requires c κs = search needs
 
 returns : tie.Need-returns
 unfolding part2
@@ -34,4 +24,4 @@ returns c =
     (c .over .ensures, ⊘-squashed, squash-mul, squash-sub, w, exp-squashed, squash-over, start .pre .0, start .pre .1, lit-1, squash-1, forced)
 
 pub part2-spec : {M : Type 1} → statement M
-part2-spec = tie.close (tie.spec exp-requires over-requires returns)
+part2-spec = tie.close (tie.spec (λ c κs. search needs) (λ c κs. search needs) returns)

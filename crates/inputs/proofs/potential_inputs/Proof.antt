@@ -6,23 +6,16 @@ use lib.Ieee.{Float, eq}
 use Rattle.refusals.specs.declared.Refusal.the-variants as refuses
 use Rattle.refusals.proofs.InOrder.{one-test}
 use Rattle.arithmetic.proofs.Literals.{lit-0}
-use Rattle.fluids.specs.R245ca.{r245ca}
 use Rattle.inputs.specs.Inputs as Inputs
 use Rattle.inputs.proofs.potential_inputs.Statement.{statement}
 use Rattle.inputs.proofs.potential_inputs.Tie as tie
-
-state-inputs-requires : tie.Need-state-inputs-requires
-state-inputs-requires c κs = search needs
-
-tested-requires : tie.Need-tested-requires
-tested-requires c κs = search needs
 
 returns : tie.Need-returns
 unfolding Inputs.potentialPermit Inputs.statePermit
 returns c =
     let state = c .before in
     let a = state .before .args in
-    one-test (Inputs.stateTests r245ca (a .t) (a .rho)) _ refuses.AtZeroDensity (c .tested .ensures) (state .state-inputs .ensures) (ap (λ (z : Float). not (eq (a .rho) z)) lit-0)
+    one-test (Inputs.stateTests (a .fluid) (a .t) (a .rho)) _ refuses.AtZeroDensity (c .tested .ensures) (state .state-inputs .ensures) (ap (λ (z : Float). not (eq (a .rho) z)) lit-0)
 
 pub potential-inputs-spec : {M : Type 1} → statement M
-potential-inputs-spec = tie.close (tie.spec state-inputs-requires tested-requires returns)
+potential-inputs-spec = tie.close (tie.spec (λ c κs. search needs) (λ c κs. search needs) returns)

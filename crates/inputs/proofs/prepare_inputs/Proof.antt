@@ -6,25 +6,9 @@ use borrow.Author.Needs.{needs}
 use lib.Ieee.Scale.{finite}
 use Rattle.refusals.specs.declared.Refusal.the-variants as refuses
 use Rattle.refusals.proofs.InOrder.{one-test}
-use Rattle.fluids.specs.R245ca.{r245ca}
 use Rattle.inputs.specs.Inputs as Inputs
 use Rattle.inputs.proofs.prepare_inputs.Statement.{statement}
 use Rattle.inputs.proofs.prepare_inputs.Tie as tie
-
-finite-requires : tie.Need-finite-requires
-finite-requires c κs = search needs
-
-temperature-inputs-requires : tie.Need-temperature-inputs-requires
-temperature-inputs-requires c κs = search needs
-
-top-permitted-requires : tie.Need-top-permitted-requires
-top-permitted-requires c κs = search needs
-
-tested-requires : tie.Need-tested-requires
-tested-requires c κs = search needs
-
-tested-requires-2 : tie.Need-tested-requires-2
-tested-requires-2 c κs = search needs
 
 returns : tie.Need-returns
 unfolding Inputs.preparePermit
@@ -34,11 +18,19 @@ returns c =
     let begun = top .before in
     let number = begun .before in
     let a = number .before .args in
-    one-test (Inputs.beginning r245ca (finite (a .t)) (a .t) ++ (Inputs.topTest r245ca (a .c) ∷ [])) (a .room) refuses.TooShort (c .tested2 .ensures)
-    (one-test (Inputs.beginning r245ca (finite (a .t)) (a .t)) (Inputs.topTest r245ca (a .c) .0) refuses.TopOutside (cells .tested .ensures)
-    (begun .temperature-inputs .ensures ∙ ap (λ (n : Bool). Inputs.temperaturePermit r245ca n (a .t)) (number .finite .ensures))
+    one-test (Inputs.beginning (a .fluid) (finite (a .t)) (a .t) ++ (Inputs.topTest (a .fluid) (a .c) ∷ [])) (a .room) refuses.TooShort (c .tested2 .ensures)
+    (one-test (Inputs.beginning (a .fluid) (finite (a .t)) (a .t)) (Inputs.topTest (a .fluid) (a .c) .0) refuses.TopOutside (cells .tested .ensures)
+    (begun .temperature-inputs .ensures ∙ ap (λ (n : Bool). Inputs.temperaturePermit (a .fluid) n (a .t)) (number .finite .ensures))
     (top .top-permitted .ensures))
     refl
 
 pub prepare-inputs-spec : {M : Type 1} → statement M
-prepare-inputs-spec = tie.close (tie.spec finite-requires temperature-inputs-requires top-permitted-requires tested-requires tested-requires-2 returns)
+prepare-inputs-spec =
+    tie.close
+    (tie.spec
+    (λ c κs. search needs)
+    (λ c κs. search needs)
+    (λ c κs. search needs)
+    (λ c κs. search needs)
+    (λ c κs. search needs)
+    returns)

@@ -4,8 +4,6 @@ use borrow.Author.Tests.{lt-ltb, le-ltb}
 use Rattle.inputs.specs.Inputs.{roomOf}
 use Rattle.inputs.proofs.room.Statement.{statement}
 use Rattle.inputs.proofs.room.Tie as tie
-use Rattle.inputs.proofs.room.Reads as reads
-use Rattle.inputs.proofs.room.Lts as lts
 
 returns : tie.Need-returns
 unfolding roomOf

@@ -7,22 +7,10 @@ use lib.Ieee.Scale.{finite}
 use Rattle.refusals.specs.declared.Refusal.the-variants as refuses
 use Rattle.refusals.proofs.InOrder.{one-test}
 use Rattle.fluids.specs.declared.Constants.{Constants}
-use Rattle.fluids.specs.R245ca.{r245ca}
+use Rattle.fluids.specs.Entries.{entryOf}
 use Rattle.inputs.specs.Inputs as Inputs
 use Rattle.inputs.proofs.saturation_inputs.Statement.{statement}
 use Rattle.inputs.proofs.saturation_inputs.Tie as tie
-
-finite-requires : tie.Need-finite-requires
-finite-requires c κs = search needs
-
-temperature-inputs-requires : tie.Need-temperature-inputs-requires
-temperature-inputs-requires c κs = search needs
-
-single-numbers-requires : tie.Need-single-numbers-requires
-single-numbers-requires c κs = search needs
-
-tested-requires : tie.Need-tested-requires
-tested-requires c κs = search needs
 
 returns : tie.Need-returns
 unfolding Inputs.saturationPermit
@@ -31,9 +19,16 @@ returns c =
     let begun = entry .before in
     let number = begun .before in
     let a = number .before .args in
-    one-test (Inputs.beginning r245ca (finite (a .t)) (a .t)) (le (a .t) (r245ca .Tc)) refuses.AboveCritical (c .tested .ensures)
-    (begun .temperature-inputs .ensures ∙ ap (λ (n : Bool). Inputs.temperaturePermit r245ca n (a .t)) (number .finite .ensures))
+    one-test (Inputs.beginning (a .fluid) (finite (a .t)) (a .t)) (le (a .t) (entryOf (a .fluid) .Tc)) refuses.AboveCritical (c .tested .ensures)
+    (begun .temperature-inputs .ensures ∙ ap (λ (n : Bool). Inputs.temperaturePermit (a .fluid) n (a .t)) (number .finite .ensures))
     (ap (λ (k : Constants). le (a .t) (k .«critical_temperature»)) (entry .single-numbers .ensures))
 
 pub saturation-inputs-spec : {M : Type 1} → statement M
-saturation-inputs-spec = tie.close (tie.spec finite-requires temperature-inputs-requires single-numbers-requires tested-requires returns)
+saturation-inputs-spec =
+    tie.close
+    (tie.spec
+    (λ c κs. search needs)
+    (λ c κs. search needs)
+    (λ c κs. search needs)
+    (λ c κs. search needs)
+    returns)

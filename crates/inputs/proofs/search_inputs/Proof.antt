@@ -4,22 +4,9 @@ use mathlib.Core.List.{[], _∷_, _++_}
 use borrow.Author.Needs.{needs}
 use Rattle.refusals.specs.declared.Refusal.the-variants as refuses
 use Rattle.refusals.proofs.InOrder.{one-test}
-use Rattle.fluids.specs.R245ca.{r245ca}
 use Rattle.inputs.specs.Inputs as Inputs
 use Rattle.inputs.proofs.search_inputs.Statement.{statement}
 use Rattle.inputs.proofs.search_inputs.Tie as tie
-
-asked-inputs-requires : tie.Need-asked-inputs-requires
-asked-inputs-requires c κs = search needs
-
-top-permitted-requires : tie.Need-top-permitted-requires
-top-permitted-requires c κs = search needs
-
-tested-requires : tie.Need-tested-requires
-tested-requires c κs = search needs
-
-tested-requires-2 : tie.Need-tested-requires-2
-tested-requires-2 c κs = search needs
 
 returns : tie.Need-returns
 unfolding Inputs.searchPermit Inputs.askedPermit
@@ -28,9 +15,16 @@ returns c =
     let top = cells .before in
     let asked = top .before in
     let a = asked .before .args in
-    one-test (Inputs.askedTests r245ca (a .t) (a .p) ++ (Inputs.topTest r245ca (a .c) ∷ [])) (a .room) refuses.TooShort (c .tested2 .ensures)
-    (one-test (Inputs.askedTests r245ca (a .t) (a .p)) (Inputs.topTest r245ca (a .c) .0) refuses.TopOutside (cells .tested .ensures) (asked .asked-inputs .ensures) (top .top-permitted .ensures))
+    one-test (Inputs.askedTests (a .fluid) (a .t) (a .p) ++ (Inputs.topTest (a .fluid) (a .c) ∷ [])) (a .room) refuses.TooShort (c .tested2 .ensures)
+    (one-test (Inputs.askedTests (a .fluid) (a .t) (a .p)) (Inputs.topTest (a .fluid) (a .c) .0) refuses.TopOutside (cells .tested .ensures) (asked .asked-inputs .ensures) (top .top-permitted .ensures))
     refl
 
 pub search-inputs-spec : {M : Type 1} → statement M
-search-inputs-spec = tie.close (tie.spec asked-inputs-requires top-permitted-requires tested-requires tested-requires-2 returns)
+search-inputs-spec =
+    tie.close
+    (tie.spec
+    (λ c κs. search needs)
+    (λ c κs. search needs)
+    (λ c κs. search needs)
+    (λ c κs. search needs)
+    returns)

@@ -8,15 +8,6 @@ use Rattle.inputs.specs.Inputs as Inputs
 use Rattle.inputs.proofs.temperature_inputs.Statement.{statement}
 use Rattle.inputs.proofs.temperature_inputs.Tie as tie
 
-tested-requires : tie.Need-tested-requires
-tested-requires c κs = search needs
-
-temperature-permitted-requires : tie.Need-temperature-permitted-requires
-temperature-permitted-requires c κs = search needs
-
-tested-requires-2 : tie.Need-tested-requires-2
-tested-requires-2 c κs = search needs
-
 returns : tie.Need-returns
 returns c =
     let temperature = c .before in
@@ -27,4 +18,10 @@ returns c =
     (temperature .temperature-permitted .ensures)
 
 pub temperature-inputs-spec : {M : Type 1} → statement M
-temperature-inputs-spec = tie.close (tie.spec tested-requires temperature-permitted-requires tested-requires-2 returns)
+temperature-inputs-spec =
+    tie.close
+    (tie.spec
+    (λ c κs. search needs)
+    (λ c κs. search needs)
+    (λ c κs. search needs)
+    returns)

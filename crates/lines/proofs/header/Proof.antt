@@ -3,8 +3,6 @@ use mathlib.Core.Path.{refl}
 use Rattle.lines.specs.Lines.{headerText}
 use Rattle.lines.proofs.header.Statement.{statement}
 use Rattle.lines.proofs.header.Tie as tie
-use Rattle.lines.proofs.header.Reads as reads
-use Rattle.lines.proofs.header.Lts as lts
 
 returns : tie.Need-returns
 unfolding headerText

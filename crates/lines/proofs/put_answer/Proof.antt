@@ -11,28 +11,11 @@ use Rattle.lines.proofs.Placing.{then, as-text}
 use borrow.Author.Needs.{needs}
 use Rattle.lines.proofs.put_answer.Statement.{statement}
 use Rattle.lines.proofs.put_answer.Tie as tie
-use Rattle.lines.proofs.put_answer.Reads as reads
-use Rattle.lines.proofs.put_answer.Lts as lts
-use Rattle.lines.proofs.put_bits.Reads as put-bits-reads
-use Rattle.lines.proofs.put_number.Reads as put-number-reads
-use Rattle.refusals.proofs.answer_code.Reads as answer-code-reads
-
-answer-code-requires : tie.Need-answer-code-requires
-answer-code-requires c κs = search needs
-
-cast-code : tie.Need-cast-code
-cast-code c = search needs
-
-put-number-requires : tie.Need-put-number-requires
-put-number-requires c κs = search needs
 
 put-bits-requires : tie.Need-put-bits-requires
 put-bits-requires c κs =
     let code = c .before .before .before .before .before .answer-code .result in
     omega (arith, spaced-length (decimalOf code), decimal-small code)
-
-same-length : tie.Need-same-length
-same-length c = search needs
 
 returns : tie.Need-returns
 unfolding answerText
@@ -49,9 +32,9 @@ pub put-answer-spec : {M : Type 1} → statement M
 put-answer-spec =
     tie.close
     (tie.spec
-    answer-code-requires
-    cast-code
-    put-number-requires
+    (λ c κs. search needs)
+    (λ c. search needs)
+    (λ c κs. search needs)
     put-bits-requires
-    same-length
+    (λ c. search needs)
     returns)

@@ -12,9 +12,6 @@ use Rattle.lines.proofs.Lengths.{dashes-length}
 use Rattle.lines.proofs.Placing.{nothing, then, as-text, put-length}
 use Rattle.lines.proofs.put_dashes.Statement.{statement}
 use Rattle.lines.proofs.put_dashes.Tie as tie
-use Rattle.lines.proofs.put_dashes.Reads as reads
-use Rattle.lines.proofs.put_dashes.Lts as lts
-use Rattle.lines.proofs.text.put_byte.Reads as put-byte-reads
 
 one-more : (k : ℕ) → dashes k ++ (45 ∷ []) ≡ dashes (k + 1)
 unfolding dashes
@@ -36,21 +33,12 @@ loop-holds c = (omega arith, search needs, none (c .before .args .at) (c .before
 put-byte-requires : tie.Need-put-byte-requires Inv-loop μ-loop
 put-byte-requires c κs = omega (arith, dashes-length (c .before .before .loop .k))
 
-add-k : tie.Need-add-k Inv-loop μ-loop
-add-k c = search needs
-
-loop-less : tie.Need-loop-less Inv-loop μ-loop
-loop-less c = search needs
-
 loop-again : tie.Need-loop-again Inv-loop μ-loop
 loop-again c =
     let put = c .before .before in
     let loop = put .before .before .before .loop in
     let more = then (loop .inv .2) (put .put-byte .ensures) (omega (arith, dashes-length (loop .k))) in
     (omega arith, put-length more (omega (arith, dashes-length (loop .k))), as-text (one-more (loop .k)) more)
-
-same-length : tie.Need-same-length Inv-loop μ-loop
-same-length c = search needs
 
 returns : tie.Need-returns Inv-loop μ-loop
 returns c = as-text (ap dashes (omega arith)) (c .before .loop .inv .2)
@@ -63,8 +51,8 @@ put-dashes-spec =
     μ-loop
     loop-holds
     put-byte-requires
-    add-k
-    loop-less
+    (λ c. search needs)
+    (λ c. search needs)
     loop-again
-    same-length
+    (λ c. search needs)
     returns)

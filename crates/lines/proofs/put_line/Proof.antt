@@ -12,19 +12,6 @@ use Rattle.lines.proofs.Placing.{then, as-text}
 use borrow.Author.Needs.{needs}
 use Rattle.lines.proofs.put_line.Statement.{statement}
 use Rattle.lines.proofs.put_line.Tie as tie
-use Rattle.lines.proofs.put_line.Reads as reads
-use Rattle.lines.proofs.put_line.Lts as lts
-use Rattle.records.proofs.answer.Reads as answer-reads
-use Rattle.lines.proofs.put_answer.Reads as put-answer-reads
-use Rattle.lines.proofs.put_number.Reads as put-number-reads
-use Rattle.lines.proofs.put_spaced_mark.Reads as put-spaced-mark-reads
-use Rattle.lines.proofs.text.put_byte.Reads as put-byte-reads
-
-answer-requires : tie.Need-answer-requires
-answer-requires c κs = search needs
-
-put-number-requires : tie.Need-put-number-requires
-put-number-requires c κs = search needs
 
 put-spaced-mark-requires : tie.Need-put-spaced-mark-requires
 put-spaced-mark-requires c κs =
@@ -55,9 +42,6 @@ put-byte-requires c κs =
       answer-small (answer .answer .result),
     )
 
-same-length : tie.Need-same-length
-same-length c = search needs
-
 returns : tie.Need-returns
 unfolding lineOf
 returns c =
@@ -84,10 +68,10 @@ pub put-line-spec : {M : Type 1} → statement M
 put-line-spec =
     tie.close
     (tie.spec
-    answer-requires
-    put-number-requires
+    (λ c κs. search needs)
+    (λ c κs. search needs)
     put-spaced-mark-requires
     put-answer-requires
     put-byte-requires
-    same-length
+    (λ c. search needs)
     returns)

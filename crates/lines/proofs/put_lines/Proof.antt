@@ -11,9 +11,6 @@ use Rattle.lines.specs.Lines.{linesFit, linesOf, linesPut}
 use borrow.Author.Needs.{needs}
 use Rattle.lines.proofs.put_lines.Statement.{statement}
 use Rattle.lines.proofs.put_lines.Tie as tie
-use Rattle.lines.proofs.put_lines.Reads as reads
-use Rattle.lines.proofs.put_lines.Lts as lts
-use Rattle.lines.proofs.fitted_lines.Reads as fitted-lines-reads
 
 module _ (first : ℕ) (s out : List ℕ) where
   none-put : linesFit first s out ≡ false → (0 ≡ length (linesPut first s out)) × (out ≡ linesPut first s out ++ out)
@@ -44,19 +41,10 @@ returns c =
     let args = c .before .before .before .args in
     none-put (args .first) (args .input .now) (args .out .now) (room-short _ _ _ (c .if1 .taken))
 
-sub-numbers : tie.Need-sub-numbers
-sub-numbers c = search needs
-
 returns-2 : tie.Need-returns-2
 returns-2 c =
     let args = c .before .before .before .before .args in
     none-put (args .first) (args .input .now) (args .out .now) (numbers-short _ _ _ (c .before .if1 .left) (omega arith))
-
-fitted-lines-requires : tie.Need-fitted-lines-requires
-fitted-lines-requires c κs = search needs
-
-same-length : tie.Need-same-length
-same-length c = search needs
 
 returns-3 : tie.Need-returns-3
 returns-3 c =
@@ -66,4 +54,4 @@ returns-3 c =
 
 pub put-lines-spec : {M : Type 1} → statement M
 put-lines-spec =
-    tie.close (tie.spec returns sub-numbers returns-2 fitted-lines-requires same-length returns-3)
+    tie.close (tie.spec returns (λ c. search needs) returns-2 (λ c κs. search needs) (λ c. search needs) returns-3)

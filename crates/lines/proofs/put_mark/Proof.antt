@@ -16,9 +16,6 @@ mark-is : (s : List ℕ) {r known : Record} → r ≡ recordOf s → r ≡ known
 unfolding markText
 mark-is s e f = ap (λ (r : Record). markOf r s) (sym f ∙ e)
 
-read-requires : tie.Need-read-requires
-read-requires c κs = search needs
-
 enum-told : tie.Need-enum-told
 enum-told c = search needs
 
@@ -28,53 +25,26 @@ put-letters-requires c κs =
     let whole = whole-length _ (sym (c .before .enum-told .given .1) ∙ read .read .ensures) tt in
     (omega arith, search needs)
 
-enum-told-2 : tie.Need-enum-told-2
-enum-told-2 c = search needs
-
 put-letters-requires-2 : tie.Need-put-letters-requires-2
 put-letters-requires-2 c κs =
     let read = c .before .before .before in
     let whole = whole-length _ (sym (c .before .enum-told2 .given .1) ∙ read .read .ensures) tt in
     (omega arith, search needs)
 
-enum-told-3 : tie.Need-enum-told-3
-enum-told-3 c = search needs
-
-put-pair-requires : tie.Need-put-pair-requires
-put-pair-requires c κs = search needs
-
-enum-told-4 : tie.Need-enum-told-4
-enum-told-4 c = search needs
-
-put-pair-requires-2 : tie.Need-put-pair-requires-2
-put-pair-requires-2 c κs = search needs
-
-same-length : tie.Need-same-length
-same-length c = search needs
-
 returns : tie.Need-returns
 returns c =
     let told = c .before .before .before .before in
     as-text (mark-is _ (told .before .before .read .ensures) (told .enum-told .given .1)) (c .before .before .put-letters .ensures)
-
-same-length-2 : tie.Need-same-length-2
-same-length-2 c = search needs
 
 returns-2 : tie.Need-returns-2
 returns-2 c =
     let told = c .before .before .before .before in
     as-text (mark-is _ (told .before .before .read .ensures) (told .enum-told2 .given .1)) (c .before .before .put-letters2 .ensures)
 
-same-length-3 : tie.Need-same-length-3
-same-length-3 c = search needs
-
 returns-3 : tie.Need-returns-3
 returns-3 c =
     let told = c .before .before .before .before in
     as-text (mark-is _ (told .before .before .read .ensures) (told .enum-told3 .given .1)) (c .before .before .put-pair .ensures)
-
-same-length-4 : tie.Need-same-length-4
-same-length-4 c = search needs
 
 returns-4 : tie.Need-returns-4
 returns-4 c =
@@ -85,20 +55,20 @@ pub put-mark-spec : {M : Type 1} → statement M
 put-mark-spec =
     tie.close
     (tie.spec
-    read-requires
+    (λ c κs. search needs)
     enum-told
     put-letters-requires
-    enum-told-2
+    (λ c. search needs)
     put-letters-requires-2
-    enum-told-3
-    put-pair-requires
-    enum-told-4
-    put-pair-requires-2
-    same-length
+    (λ c. search needs)
+    (λ c κs. search needs)
+    (λ c. search needs)
+    (λ c κs. search needs)
+    (λ c. search needs)
     returns
-    same-length-2
+    (λ c. search needs)
     returns-2
-    same-length-3
+    (λ c. search needs)
     returns-3
-    same-length-4
+    (λ c. search needs)
     returns-4)

@@ -5,19 +5,9 @@ use Rattle.lines.proofs.Placing.{then}
 use borrow.Author.Needs.{needs}
 use Rattle.lines.proofs.put_spaced_mark.Statement.{statement}
 use Rattle.lines.proofs.put_spaced_mark.Tie as tie
-use Rattle.lines.proofs.put_spaced_mark.Reads as reads
-use Rattle.lines.proofs.put_spaced_mark.Lts as lts
-use Rattle.lines.proofs.put_mark.Reads as put-mark-reads
-use Rattle.lines.proofs.text.put_byte.Reads as put-byte-reads
-
-put-mark-requires : tie.Need-put-mark-requires
-put-mark-requires c κs = search needs
 
 put-byte-requires : tie.Need-put-byte-requires
 put-byte-requires c κs = omega (arith, mark-length (c .before .before .before .before .before .before .before .args .s .now))
-
-same-length : tie.Need-same-length
-same-length c = search needs
 
 returns : tie.Need-returns
 returns c =
@@ -26,4 +16,4 @@ returns c =
     then (mark .put-mark .ensures) (space .put-byte .ensures) (omega (arith, mark-length (mark .before .before .before .before .args .s .now)))
 
 pub put-spaced-mark-spec : {M : Type 1} → statement M
-put-spaced-mark-spec = tie.close (tie.spec put-mark-requires put-byte-requires same-length returns)
+put-spaced-mark-spec = tie.close (tie.spec (λ c κs. search needs) put-byte-requires (λ c. search needs) returns)

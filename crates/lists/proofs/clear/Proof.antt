@@ -10,8 +10,6 @@ use Rattle.search.proofs.Filling.{fill-start, fill-length, fill-next, fill-end}
 use Rattle.lists.proofs.InRoom.{cleared-in-room, cleared-without}
 use Rattle.lists.proofs.clear.Statement.{statement}
 use Rattle.lists.proofs.clear.Tie as tie
-use Rattle.lists.proofs.clear.Reads as reads
-use Rattle.lists.proofs.clear.Lts as lts
 
 abbrev Inv-loop : tie.InvT-loop
 Inv-loop c list₀ j₀ list j = (j ≤ c + 1) × (list ≡ filled (λ i. real 0) j list₀)

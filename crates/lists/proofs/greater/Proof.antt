@@ -5,8 +5,6 @@ use lib.Ieee.{Float, lt}
 use Rattle.search.specs.Lists.{greaterOf}
 use Rattle.lists.proofs.greater.Statement.{statement}
 use Rattle.lists.proofs.greater.Tie as tie
-use Rattle.lists.proofs.greater.Reads as reads
-use Rattle.lists.proofs.greater.Lts as lts
 
 second : (x y : Float) → lt x y ≡ true → y ≡ greaterOf x y
 unfolding greaterOf

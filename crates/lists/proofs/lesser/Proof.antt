@@ -5,8 +5,6 @@ use lib.Ieee.{Float, lt}
 use Rattle.search.specs.Lists.{lesserOf}
 use Rattle.lists.proofs.lesser.Statement.{statement}
 use Rattle.lists.proofs.lesser.Tie as tie
-use Rattle.lists.proofs.lesser.Reads as reads
-use Rattle.lists.proofs.lesser.Lts as lts
 
 second : (x y : Float) → lt y x ≡ true → y ≡ lesserOf x y
 unfolding lesserOf

@@ -10,9 +10,6 @@ use Rattle.lists.proofs.InRoom.{down-in-room, down-without}
 use Rattle.lists.proofs.Sweeps.{swept, down-start, down-next, down-end}
 use Rattle.lists.proofs.sweep_down.Statement.{statement}
 use Rattle.lists.proofs.sweep_down.Tie as tie
-use Rattle.lists.proofs.sweep_down.Reads as reads
-use Rattle.lists.proofs.sweep_down.Lts as lts
-use Rattle.lists.proofs.lesser.Reads as lesser-reads
 
 abbrev Inv-loop : tie.InvT-loop
 Inv-loop c list₀ j₀ list j = (j ≤ c) × (list ≡ filled (swept list₀ c j) (c + 1) list₀)

@@ -10,9 +10,6 @@ use Rattle.lists.proofs.InRoom.{up-in-room, up-without}
 use Rattle.lists.proofs.Sweeps.{up-start, up-next}
 use Rattle.lists.proofs.sweep_up.Statement.{statement}
 use Rattle.lists.proofs.sweep_up.Tie as tie
-use Rattle.lists.proofs.sweep_up.Reads as reads
-use Rattle.lists.proofs.sweep_up.Lts as lts
-use Rattle.lists.proofs.greater.Reads as greater-reads
 
 abbrev Inv-loop : tie.InvT-loop
 Inv-loop c list₀ j₀ list j = (j ≤ c) × (list ≡ filled (greatest (entriesOf list₀)) (j + 1) list₀)

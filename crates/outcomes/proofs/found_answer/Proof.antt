@@ -4,14 +4,6 @@ use Rattle.outcomes.specs.Codes.{foundAnswerOf}
 use borrow.Author.Needs.{needs}
 use Rattle.outcomes.proofs.found_answer.Statement.{statement}
 use Rattle.outcomes.proofs.found_answer.Tie as tie
-use Rattle.outcomes.proofs.found_answer.Reads as reads
-use Rattle.outcomes.proofs.found_answer.Lts as lts
-
-enum-known-found : tie.Need-enum-known-found
-enum-known-found c = search needs
-
-enum-known-found-2 : tie.Need-enum-known-found-2
-enum-known-found-2 c = search needs
 
 returns : tie.Need-returns
 returns c = sym (ap foundAnswerOf (c .before .found .given .1))
@@ -20,4 +12,4 @@ returns-2 : tie.Need-returns-2
 returns-2 c = sym (ap foundAnswerOf (c .before .found2 .given .1))
 
 pub found-answer-spec : {M : Type 1} → statement M
-found-answer-spec = tie.close (tie.spec enum-known-found enum-known-found-2 returns returns-2)
+found-answer-spec = tie.close (tie.spec (λ c. search needs) (λ c. search needs) returns returns-2)

@@ -5,15 +5,6 @@ use borrow.Author.Needs.{needs}
 use Rattle.outcomes.proofs.found_bits.Statement.{statement}
 use Rattle.outcomes.proofs.found_bits.Tie as tie
 
-enum-known-found : tie.Need-enum-known-found
-enum-known-found c = search needs
-
-bits-requires : tie.Need-bits-requires
-bits-requires c κs = search needs
-
-enum-told : tie.Need-enum-told
-enum-told c = search needs
-
 returns : tie.Need-returns
 returns c = c .bits .ensures ∙ sym (ap foundBitsOf (c .before .before .found .given .1))
 
@@ -21,4 +12,11 @@ returns-2 : tie.Need-returns-2
 returns-2 c = search needs
 
 pub found-bits-spec : {M : Type 1} → statement M
-found-bits-spec = tie.close (tie.spec enum-known-found bits-requires enum-told returns returns-2)
+found-bits-spec =
+    tie.close
+    (tie.spec
+    (λ c. search needs)
+    (λ c κs. search needs)
+    (λ c. search needs)
+    returns
+    returns-2)

@@ -15,9 +15,6 @@ use Rattle.steps.specs.Steps.{stepPressureOf}
 use Rattle.steps.proofs.Seen.{nan-seen}
 use Rattle.preparation.proofs.fill.Statement.{statement}
 use Rattle.preparation.proofs.fill.Tie as tie
-use Rattle.preparation.proofs.fill.Reads as reads
-use Rattle.preparation.proofs.fill.Lts as lts
-use Rattle.steps.proofs.end_pressure.Reads as end-pressure-reads
 
 abbrev Inv-loop : tie.InvT-loop
 Inv-loop kept c greatest₀ least₀ j₀ greatest least j =
@@ -29,9 +26,6 @@ abbrev μ-loop : tie.MeasureT-loop
 
 loop-holds : tie.Need-loop-holds Inv-loop μ-loop
 loop-holds c = (omega arith, not-finite-start _, fill-start _ _, fill-start _ _)
-
-end-pressure-requires : tie.Need-end-pressure-requires Inv-loop μ-loop
-end-pressure-requires c κs = search needs
 
 same-length : tie.Need-same-length Inv-loop μ-loop
 same-length c = fill-length _ _ _ _ (c .before .before .before .loop .inv .2)
@@ -92,7 +86,7 @@ fill-spec =
     Inv-loop
     μ-loop
     loop-holds
-    end-pressure-requires
+    (λ c κs. search needs)
     same-length
     same-length-2
     returns

@@ -3,30 +3,12 @@ use Prim.Native.Nat.{_≤_, _-_}
 use borrow.Author.Needs.{needs}
 use Rattle.probe.proofs.main.Statement.{statement}
 use Rattle.probe.proofs.main.Tie as tie
-use Rattle.probe.proofs.main.Reads as reads
-use Rattle.probe.proofs.main.Lts as lts
-use Rattle.probe.proofs.block.Reads as block-reads
 
 abbrev Inv-loop : tie.InvT-loop
 Inv-loop turns₀ turns = turns ≤ 1099511627776
 
 abbrev μ-loop : tie.MeasureT-loop
 μ-loop turns₀ turns = 1099511627776 - turns
-
-loop-holds : tie.Need-loop-holds Inv-loop μ-loop
-loop-holds c = search needs
-
-block-requires : tie.Need-block-requires Inv-loop μ-loop
-block-requires c κs = search needs
-
-add-turns : tie.Need-add-turns Inv-loop μ-loop
-add-turns c = search needs
-
-loop-less : tie.Need-loop-less Inv-loop μ-loop
-loop-less c = search needs
-
-loop-again : tie.Need-loop-again Inv-loop μ-loop
-loop-again c = search needs
 
 returns : tie.Need-returns Inv-loop μ-loop
 returns c = search needs
@@ -40,10 +22,10 @@ main-spec =
     (tie.spec
     Inv-loop
     μ-loop
-    loop-holds
-    block-requires
-    add-turns
-    loop-less
-    loop-again
+    (λ c. search needs)
+    (λ c κs. search needs)
+    (λ c. search needs)
+    (λ c. search needs)
+    (λ c. search needs)
     returns
     returns-2)

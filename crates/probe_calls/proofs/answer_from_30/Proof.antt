@@ -4,18 +4,9 @@ use borrow.Author.Needs.{needs}
 use Rattle.probe_calls.proofs.Rows.{found, passed-over, none}
 use Rattle.probe_calls.proofs.answer_from_30.Statement.{statement}
 use Rattle.probe_calls.proofs.answer_from_30.Tie as tie
-use Rattle.probe_calls.proofs.answer_from_30.Reads as reads
-use Rattle.probe_calls.proofs.answer_from_30.Lts as lts
-use Rattle.probe_calls.proofs.plain_answer.Reads as plain-answer-reads
-
-plain-answer-requires : tie.Need-plain-answer-requires
-plain-answer-requires c κs = search needs
 
 returns : tie.Need-returns
 returns c = c .plain-answer .ensures ∙ sym (found _ _ _ _ (c .before .if1 .taken))
-
-plain-answer-requires-2 : tie.Need-plain-answer-requires-2
-plain-answer-requires-2 c κs = search needs
 
 returns-2 : tie.Need-returns-2
 returns-2 c = c .plain-answer2 .ensures ∙ sym (passed-over _ _ _ _ (c .before .before .if1 .left) ∙ found _ _ _ _ (c .before .if2 .taken))
@@ -24,4 +15,4 @@ returns-3 : tie.Need-returns-3
 returns-3 c = sym (passed-over _ _ _ _ (c .before .if1 .left) ∙ passed-over _ _ _ _ (c .if2 .left) ∙ none _)
 
 pub answer-from-30-spec : {M : Type 1} → statement M
-answer-from-30-spec = tie.close (tie.spec plain-answer-requires returns plain-answer-requires-2 returns-2 returns-3)
+answer-from-30-spec = tie.close (tie.spec (λ c κs. search needs) returns (λ c κs. search needs) returns-2 returns-3)

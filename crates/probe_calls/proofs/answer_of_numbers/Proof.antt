@@ -5,20 +5,11 @@ use borrow.Author.Needs.{needs}
 use Rattle.probe_calls.proofs.answer_of_numbers.Statement.{statement}
 use Rattle.probe_calls.proofs.answer_of_numbers.Tie as tie
 
-exponential-requires : tie.Need-exponential-requires
-exponential-requires c κs = search needs
-
 returns : tie.Need-returns
 returns c = c .exponential .ensures ∙ sym (found _ 1 _ _ (c .before .if1 .taken))
 
-logarithm-requires : tie.Need-logarithm-requires
-logarithm-requires c κs = search needs
-
 returns-2 : tie.Need-returns-2
 returns-2 c = c .logarithm .ensures ∙ sym (passed-over _ 1 _ _ (c .before .before .if1 .left) ∙ found _ 2 _ _ (c .before .if2 .taken))
-
-square-root-requires : tie.Need-square-root-requires
-square-root-requires c κs = search needs
 
 returns-3 : tie.Need-returns-3
 returns-3 c =
@@ -26,9 +17,6 @@ returns-3 c =
     let at2 = at3 .before in
     c .square-root .ensures
     ∙ sym (passed-over _ 1 _ _ (at2 .before .if1 .left) ∙ passed-over _ 2 _ _ (at2 .if2 .left) ∙ found _ 3 _ _ (at3 .if3 .taken))
-
-answer-from-10-requires : tie.Need-answer-from-10-requires
-answer-from-10-requires c κs = search needs
 
 returns-4 : tie.Need-returns-4
 returns-4 c =
@@ -41,11 +29,11 @@ pub answer-of-numbers-spec : {M : Type 1} → statement M
 answer-of-numbers-spec =
     tie.close
     (tie.spec
-    exponential-requires
+    (λ c κs. search needs)
     returns
-    logarithm-requires
+    (λ c κs. search needs)
     returns-2
-    square-root-requires
+    (λ c κs. search needs)
     returns-3
-    answer-from-10-requires
+    (λ c κs. search needs)
     returns-4)

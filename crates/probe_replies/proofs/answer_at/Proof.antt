@@ -13,33 +13,6 @@ returns : tie.Need-returns
 unfolding answerAt
 returns c = simp (lt-leb 24 _ (c .if1 .taken))
 
-word-requires : tie.Need-word-requires
-word-requires c κs = search needs
-
-sub-word : tie.Need-sub-word
-sub-word c = search needs
-
-part-word-start : tie.Need-part-word-start
-part-word-start c = search needs
-
-part-word-end : tie.Need-part-word-end
-part-word-end c = search needs
-
-word-requires-2 : tie.Need-word-requires-2
-word-requires-2 c κs = search needs
-
-sub-word-2 : tie.Need-sub-word-2
-sub-word-2 c = search needs
-
-part-word-start-2 : tie.Need-part-word-start-2
-part-word-start-2 c = search needs
-
-part-word-end-2 : tie.Need-part-word-end-2
-part-word-end-2 c = search needs
-
-word-requires-3 : tie.Need-word-requires-3
-word-requires-3 c κs = search needs
-
 answer-over-requires : tie.Need-answer-over-requires
 answer-over-requires c κs =
     let second = c .before .before in
@@ -62,14 +35,14 @@ answer-at-spec =
     tie.close
     (tie.spec
     returns
-    word-requires
-    sub-word
-    part-word-start
-    part-word-end
-    word-requires-2
-    sub-word-2
-    part-word-start-2
-    part-word-end-2
-    word-requires-3
+    (λ c κs. search needs)
+    (λ c. search needs)
+    (λ c. search needs)
+    (λ c. search needs)
+    (λ c κs. search needs)
+    (λ c. search needs)
+    (λ c. search needs)
+    (λ c. search needs)
+    (λ c κs. search needs)
     answer-over-requires
     returns-2)

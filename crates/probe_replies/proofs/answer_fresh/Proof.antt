@@ -9,19 +9,10 @@ prepare-for-requires c κs =
     let start = c .before .before .before .before in
     any-serve-none _ _ (start .pre .0) (start .pre .1)
 
-answer-over-requires : tie.Need-answer-over-requires
-answer-over-requires c κs = search needs
-
-same-length : tie.Need-same-length
-same-length c = search needs
-
-same-length-2 : tie.Need-same-length-2
-same-length-2 c = search needs
-
 returns : tie.Need-returns
 returns c = search needs
 
 pub answer-fresh-spec : {M : Type 1} → statement M
 answer-fresh-spec =
     tie.close
-    (tie.spec prepare-for-requires answer-over-requires same-length same-length-2 returns)
+    (tie.spec prepare-for-requires (λ c κs. search needs) (λ c. search needs) (λ c. search needs) returns)

@@ -1,6 +1,7 @@
 -- `answer_over` meets its contract: its tests are those of `lookUp`, row by row, and the lists serve what the quick search is asked.
 -- Assumes nothing.
 use mathlib.Core.Path.{_∙_, sym}
+use Rattle.fluids.specs.declared.Fluid.the-variants.{R245ca}
 use Rattle.density.specs.declared.Side.the-variants.{FromBelow, FromAbove}
 use Rattle.probe_replies.specs.Question.{answerTo}
 use Rattle.probe_calls.proofs.Rows.{found, passed-over, at-numbers}
@@ -10,16 +11,10 @@ use borrow.Author.Needs.{needs}
 use Rattle.probe_replies.proofs.answer_over.Statement.{statement}
 use Rattle.probe_replies.proofs.answer_over.Tie as tie
 
-number-requires : tie.Need-number-requires
-number-requires c κs = search needs
-
-number-requires-2 : tie.Need-number-requires-2
-number-requires-2 c κs = search needs
-
 quick-answer-requires : tie.Need-quick-answer-requires
 quick-answer-requires c κs =
     let first = c .before .before in
-    serves-at 1664 _ _ _ _ (first .number .ensures) (first .before .before .before .pre (from-below-is-over _ (c .if1 .taken)))
+    serves-at R245ca 1664 _ _ _ _ (first .number .ensures) (first .before .before .before .pre (from-below-is-over _ (c .if1 .taken)))
 
 returns : tie.Need-returns
 unfolding answerTo
@@ -32,7 +27,7 @@ returns c =
 quick-answer-requires-2 : tie.Need-quick-answer-requires-2
 quick-answer-requires-2 c κs =
     let first = c .before .before .before in
-    serves-at 1664 _ _ _ _ (first .number .ensures) (first .before .before .before .pre (from-above-is-over _ (c .before .if1 .left) (c .if2 .taken)))
+    serves-at R245ca 1664 _ _ _ _ (first .number .ensures) (first .before .before .before .pre (from-above-is-over _ (c .before .if1 .left) (c .if2 .taken)))
 
 returns-2 : tie.Need-returns-2
 unfolding answerTo
@@ -42,9 +37,6 @@ returns-2 c =
     c .quick-answer2 .ensures
     ∙ quick-at FromAbove _ _ _ _ (second .before .number .ensures) (second .number2 .ensures)
     ∙ sym (passed-over _ _ _ _ (at33 .before .if1 .left) ∙ found _ _ _ _ (at33 .if2 .taken))
-
-answer-of-numbers-requires : tie.Need-answer-of-numbers-requires
-answer-of-numbers-requires c κs = search needs
 
 returns-3 : tie.Need-returns-3
 unfolding answerTo
@@ -59,11 +51,11 @@ pub answer-over-spec : {M : Type 1} → statement M
 answer-over-spec =
     tie.close
     (tie.spec
-    number-requires
-    number-requires-2
+    (λ c κs. search needs)
+    (λ c κs. search needs)
     quick-answer-requires
     returns
     quick-answer-requires-2
     returns-2
-    answer-of-numbers-requires
+    (λ c κs. search needs)
     returns-3)

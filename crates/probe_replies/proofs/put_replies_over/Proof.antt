@@ -5,6 +5,7 @@ use native.Mathlib.Omega.{arith}
 use borrow.Author.Needs.{needs}
 use lib.ListN.{length}
 use lib.Ieee.{binary64, ofBits}
+use Rattle.fluids.specs.declared.Fluid.the-variants.{R245ca}
 use Rattle.density.specs.Serving.{Serves}
 use Rattle.probe_replies.proofs.Progress.{Answered, none-yet, one-more, stopped, finished}
 use Rattle.probe_replies.proofs.Served.{any-serve-none}
@@ -13,7 +14,7 @@ use Rattle.probe_replies.proofs.put_replies_over.Tie as tie
 
 abbrev Inv-loop : tie.InvT-loop
 Inv-loop input out₀ greatest₀ least₀ kept₀ k₀ out greatest least kept k =
-    (24 * k < length input + 24) × Answered input out₀ out k × Serves (ofBits binary64 kept) 1664 greatest least
+    (24 * k < length input + 24) × Answered input out₀ out k × Serves R245ca (ofBits binary64 kept) 1664 greatest least
 
 abbrev μ-loop : tie.MeasureT-loop
 μ-loop input out₀ greatest₀ least₀ kept₀ k₀ out greatest least kept k = length input + 24 - 24 * k
@@ -22,18 +23,6 @@ loop-holds : tie.Need-loop-holds Inv-loop μ-loop
 loop-holds c =
     let start = c .before .before .before .before in
     (omega arith, none-yet _ _, any-serve-none _ _ (start .pre .0) (start .pre .1))
-
-mul-loop : tie.Need-mul-loop Inv-loop μ-loop
-mul-loop c = search needs
-
-mul-from : tie.Need-mul-from Inv-loop μ-loop
-mul-from c = search needs
-
-mul-to : tie.Need-mul-to Inv-loop μ-loop
-mul-to c = search needs
-
-sub-if1 : tie.Need-sub-if1 Inv-loop μ-loop
-sub-if1 c = search needs
 
 same-length : tie.Need-same-length Inv-loop μ-loop
 same-length c = c .before .before .loop .inv .1 .same
@@ -47,47 +36,11 @@ same-length-3 c = omega (arith, c .before .before .loop .inv .2 .places-least, c
 returns : tie.Need-returns Inv-loop μ-loop
 returns c = stopped _ _ _ _ (c .before .before .loop .inv .1) (c .before .loop-test .taken) (c .if1 .taken)
 
-sub-prepare-next : tie.Need-sub-prepare-next Inv-loop μ-loop
-sub-prepare-next c = search needs
-
-part-prepare-next-start : tie.Need-part-prepare-next-start Inv-loop μ-loop
-part-prepare-next-start c = search needs
-
-part-prepare-next-end : tie.Need-part-prepare-next-end Inv-loop μ-loop
-part-prepare-next-end c = search needs
-
 prepare-next-requires : tie.Need-prepare-next-requires Inv-loop μ-loop
 prepare-next-requires c κs = c .before .before .before .before .before .loop .inv .2
 
-sub-answer-at : tie.Need-sub-answer-at Inv-loop μ-loop
-sub-answer-at c = search needs
-
-part-answer-at-start : tie.Need-part-answer-at-start Inv-loop μ-loop
-part-answer-at-start c = search needs
-
-part-answer-at-end : tie.Need-part-answer-at-end Inv-loop μ-loop
-part-answer-at-end c = search needs
-
 answer-at-requires : tie.Need-answer-at-requires Inv-loop μ-loop
 answer-at-requires c κs = c .before .before .before .before .before .before .before .prepare-next .ensures .1
-
-sub-put-reply : tie.Need-sub-put-reply Inv-loop μ-loop
-sub-put-reply c = search needs
-
-part-put-reply-start : tie.Need-part-put-reply-start Inv-loop μ-loop
-part-put-reply-start c = search needs
-
-part-put-reply-end : tie.Need-part-put-reply-end Inv-loop μ-loop
-part-put-reply-end c = search needs
-
-put-reply-requires : tie.Need-put-reply-requires Inv-loop μ-loop
-put-reply-requires c κs = search needs
-
-add-k : tie.Need-add-k Inv-loop μ-loop
-add-k c = search needs
-
-loop-less : tie.Need-loop-less Inv-loop μ-loop
-loop-less c = search needs
 
 loop-again : tie.Need-loop-again Inv-loop μ-loop
 loop-again c =
@@ -100,9 +53,6 @@ loop-again c =
       one-more _ _ _ _ _ _ (at .loop .inv .1) (test .if1 .left) (asked .answer-at .ensures) (put .put-reply .ensures),
       prepared .prepare-next .ensures .0,
     )
-
-mul-result : tie.Need-mul-result Inv-loop μ-loop
-mul-result c = search needs
 
 same-length-4 : tie.Need-same-length-4 Inv-loop μ-loop
 same-length-4 c = c .before .loop .inv .1 .same
@@ -123,30 +73,30 @@ put-replies-over-spec =
     Inv-loop
     μ-loop
     loop-holds
-    mul-loop
-    mul-from
-    mul-to
-    sub-if1
+    (λ c. search needs)
+    (λ c. search needs)
+    (λ c. search needs)
+    (λ c. search needs)
     same-length
     same-length-2
     same-length-3
     returns
-    sub-prepare-next
-    part-prepare-next-start
-    part-prepare-next-end
+    (λ c. search needs)
+    (λ c. search needs)
+    (λ c. search needs)
     prepare-next-requires
-    sub-answer-at
-    part-answer-at-start
-    part-answer-at-end
+    (λ c. search needs)
+    (λ c. search needs)
+    (λ c. search needs)
     answer-at-requires
-    sub-put-reply
-    part-put-reply-start
-    part-put-reply-end
-    put-reply-requires
-    add-k
-    loop-less
+    (λ c. search needs)
+    (λ c. search needs)
+    (λ c. search needs)
+    (λ c κs. search needs)
+    (λ c. search needs)
+    (λ c. search needs)
     loop-again
-    mul-result
+    (λ c. search needs)
     same-length-4
     same-length-5
     same-length-6

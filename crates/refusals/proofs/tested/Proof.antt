@@ -3,17 +3,12 @@ use mathlib.Core.Path.{sym}
 use borrow.Author.Needs.{needs}
 use Rattle.refusals.proofs.tested.Statement.{statement}
 use Rattle.refusals.proofs.tested.Tie as tie
-use Rattle.refusals.proofs.tested.Reads as reads
-use Rattle.refusals.proofs.tested.Lts as lts
 
 enum-told : tie.Need-enum-told
 enum-told c = search needs
 
 returns : tie.Need-returns
 returns c = search needs
-
-enum-known-before : tie.Need-enum-known-before
-enum-known-before c = search needs
 
 returns-2 : tie.Need-returns-2
 returns-2 c = sym (simp (c .before .enum-told .given .1, c .if1 .left))
@@ -22,4 +17,4 @@ returns-3 : tie.Need-returns-3
 returns-3 c = sym (simp (c .before .before2 .given .1))
 
 pub tested-spec : {M : Type 1} → statement M
-tested-spec = tie.close (tie.spec enum-told returns enum-known-before returns-2 returns-3)
+tested-spec = tie.close (tie.spec enum-told returns (λ c. search needs) returns-2 returns-3)

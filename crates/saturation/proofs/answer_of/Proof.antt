@@ -2,27 +2,17 @@
 use mathlib.Core.Path.{sym, _∙_}
 use Rattle.refusals.proofs.Needed.{permitted-denied}
 use Rattle.arithmetic.proofs.Answered.{granted-answer}
-use Rattle.fluids.specs.R245ca.{r245ca}
 use Rattle.saturation.proofs.Granted.{saturation-finite}
 use borrow.Author.Needs.{needs}
 use Rattle.saturation.proofs.answer_of.Statement.{statement}
 use Rattle.saturation.proofs.answer_of.Tie as tie
-
-saturation-inputs-requires : tie.Need-saturation-inputs-requires
-saturation-inputs-requires c κs = search needs
 
 enum-told : tie.Need-enum-told
 enum-told c = search needs
 
 value-of-requires : tie.Need-value-of-requires
 value-of-requires c κs =
-    saturation-finite r245ca _ (sym (c .before .before .saturation-inputs .ensures) ∙ c .enum-told .given .1)
-
-answer-from-requires : tie.Need-answer-from-requires
-answer-from-requires c κs = search needs
-
-enum-known-permit : tie.Need-enum-known-permit
-enum-known-permit c = search needs
+    saturation-finite _ _ (sym (c .before .before .saturation-inputs .ensures) ∙ c .enum-told .given .1)
 
 returns : tie.Need-returns
 returns c =
@@ -40,10 +30,10 @@ pub answer-of-spec : {M : Type 1} → statement M
 answer-of-spec =
     tie.close
     (tie.spec
-    saturation-inputs-requires
+    (λ c κs. search needs)
     enum-told
     value-of-requires
-    answer-from-requires
-    enum-known-permit
+    (λ c κs. search needs)
+    (λ c. search needs)
     returns
     returns-2)

@@ -4,12 +4,9 @@ use borrow.Author.Needs.{needs}
 use Rattle.saturation.proofs.saturated_liquid.Statement.{statement}
 use Rattle.saturation.proofs.saturated_liquid.Tie as tie
 
-answer-of-requires : tie.Need-answer-of-requires
-answer-of-requires c κs = search needs
-
 returns : tie.Need-returns
 unfolding saturatedLiquidOf
 returns c = c .answer-of .ensures
 
 pub saturated-liquid-spec : {M : Type 1} → statement M
-saturated-liquid-spec = tie.close (tie.spec answer-of-requires returns)
+saturated-liquid-spec = tie.close (tie.spec (λ c κs. search needs) returns)

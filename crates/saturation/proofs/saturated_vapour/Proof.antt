@@ -4,12 +4,9 @@ use borrow.Author.Needs.{needs}
 use Rattle.saturation.proofs.saturated_vapour.Statement.{statement}
 use Rattle.saturation.proofs.saturated_vapour.Tie as tie
 
-answer-of-requires : tie.Need-answer-of-requires
-answer-of-requires c κs = search needs
-
 returns : tie.Need-returns
 unfolding saturatedVapourOf
 returns c = c .answer-of .ensures
 
 pub saturated-vapour-spec : {M : Type 1} → statement M
-saturated-vapour-spec = tie.close (tie.spec answer-of-requires returns)
+saturated-vapour-spec = tie.close (tie.spec (λ c κs. search needs) returns)

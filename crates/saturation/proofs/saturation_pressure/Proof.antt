@@ -4,12 +4,9 @@ use borrow.Author.Needs.{needs}
 use Rattle.saturation.proofs.saturation_pressure.Statement.{statement}
 use Rattle.saturation.proofs.saturation_pressure.Tie as tie
 
-answer-of-requires : tie.Need-answer-of-requires
-answer-of-requires c κs = search needs
-
 returns : tie.Need-returns
 unfolding saturationPressureOf
 returns c = c .answer-of .ensures
 
 pub saturation-pressure-spec : {M : Type 1} → statement M
-saturation-pressure-spec = tie.close (tie.spec answer-of-requires returns)
+saturation-pressure-spec = tie.close (tie.spec (λ c κs. search needs) returns)

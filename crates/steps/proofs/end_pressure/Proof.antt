@@ -11,9 +11,6 @@ use Rattle.steps.proofs.end_pressure.Tie as tie
 mul-k : tie.Need-mul-k
 mul-k c = omega arith
 
-step-pressure-requires : tie.Need-step-pressure-requires
-step-pressure-requires c κs = search needs
-
 returns : tie.Need-returns
 returns c =
     let j = c .before .before .args .j in
@@ -23,4 +20,4 @@ returns-2 : tie.Need-returns-2
 returns-2 c = lit-nan ∙ end-beyond (c .before .args .j) _ (omega arith)
 
 pub end-pressure-spec : {M : Type 1} → statement M
-end-pressure-spec = tie.close (tie.spec mul-k step-pressure-requires returns returns-2)
+end-pressure-spec = tie.close (tie.spec mul-k (λ c κs. search needs) returns returns-2)

@@ -3,18 +3,11 @@ use mathlib.Core.Path.{sym, _∙_, ap}
 use native.Mathlib.Omega.{arith}
 use borrow.Author.Needs.{needs}
 use Rattle.arithmetic.proofs.Literals.{lit-nan}
-use Rattle.fluids.specs.R245ca.{r245ca}
 use Rattle.equation.specs.Kept.{pressureAt}
 use Rattle.steps.specs.Steps.{stepPressureOf}
 use Rattle.steps.proofs.Inside.{step-inside, step-beyond, at-step}
 use Rattle.steps.proofs.step_pressure.Statement.{statement}
 use Rattle.steps.proofs.step_pressure.Tie as tie
-
-step-density-requires : tie.Need-step-density-requires
-step-density-requires c κs = search needs
-
-pressure-at-requires : tie.Need-pressure-at-requires
-pressure-at-requires c κs = search needs
 
 returns : tie.Need-returns
 unfolding stepPressureOf
@@ -22,11 +15,11 @@ returns c =
     let density = c .before in
     let k = density .before .before .args .k in
     c .pressure-at .ensures
-    ∙ ap (pressureAt r245ca _) (at-step _ k _ (omega arith) (density .step-density .ensures))
+    ∙ ap (pressureAt _) (at-step _ k _ (omega arith) (density .step-density .ensures))
     ∙ sym (step-inside k _ (omega arith))
 
 returns-2 : tie.Need-returns-2
 returns-2 c = lit-nan ∙ step-beyond (c .before .args .k) _ (omega arith)
 
 pub step-pressure-spec : {M : Type 1} → statement M
-step-pressure-spec = tie.close (tie.spec step-density-requires pressure-at-requires returns returns-2)
+step-pressure-spec = tie.close (tie.spec (λ c κs. search needs) (λ c κs. search needs) returns returns-2)

@@ -4,11 +4,6 @@ use borrow.Author.Needs.{needs}
 use Rattle.arithmetic.proofs.Answered.{answer-from-finite, answer-from-not-finite}
 use Rattle.arithmetic.proofs.checked.answer_from.Statement.{statement}
 use Rattle.arithmetic.proofs.checked.answer_from.Tie as tie
-use Rattle.arithmetic.proofs.checked.answer_from.Reads as reads
-use Rattle.arithmetic.proofs.checked.answer_from.Lts as lts
-
-finite-requires : tie.Need-finite-requires
-finite-requires c κs = search needs
 
 returns : tie.Need-returns
 returns c = sym (answer-from-finite (c .before .before .args .x) (sym (c .before .finite .ensures) ∙ c .if1 .taken))
@@ -17,4 +12,4 @@ returns-2 : tie.Need-returns-2
 returns-2 c = sym (answer-from-not-finite (c .before .before .args .x) (sym (c .before .finite .ensures) ∙ c .if1 .left))
 
 pub answer-from-spec : {M : Type 1} → statement M
-answer-from-spec = tie.close (tie.spec finite-requires returns returns-2)
+answer-from-spec = tie.close (tie.spec (λ c κs. search needs) returns returns-2)

@@ -4,8 +4,6 @@ use mathlib.Core.Bool.{true, false}
 use lib.Ieee.{le}
 use Rattle.arithmetic.proofs.checked.between.Statement.{statement}
 use Rattle.arithmetic.proofs.checked.between.Tie as tie
-use Rattle.arithmetic.proofs.checked.between.Reads as reads
-use Rattle.arithmetic.proofs.checked.between.Lts as lts
 
 returns : tie.Need-returns
 returns c =

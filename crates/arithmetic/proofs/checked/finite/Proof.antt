@@ -4,8 +4,6 @@ use Rattle.arithmetic.proofs.Operations.{finite-between}
 use Rattle.arithmetic.proofs.Literals.{lit-inf, lit-minus-inf}
 use Rattle.arithmetic.proofs.checked.finite.Statement.{statement}
 use Rattle.arithmetic.proofs.checked.finite.Tie as tie
-use Rattle.arithmetic.proofs.checked.finite.Reads as reads
-use Rattle.arithmetic.proofs.checked.finite.Lts as lts
 
 returns : tie.Need-returns
 returns c = sym (sym (finite-between (c .before .args .x)) ∙ simp (lit-inf, simp lit-minus-inf at (c .if1 .taken)))

@@ -8,14 +8,6 @@ use Rattle.arithmetic.proofs.Operations.{squash-div, squash-not-finite,
 use Rattle.arithmetic.proofs.Literals.{lit-nan}
 use Rattle.arithmetic.proofs.checked.over.Statement.{statement}
 use Rattle.arithmetic.proofs.checked.over.Tie as tie
-use Rattle.arithmetic.proofs.checked.over.Reads as reads
-use Rattle.arithmetic.proofs.checked.over.Lts as lts
-
-finite-requires : tie.Need-finite-requires
-finite-requires c κs = search needs
-
-squash-requires : tie.Need-squash-requires
-squash-requires c κs = search needs
 
 returns : tie.Need-returns
 returns c =
@@ -29,4 +21,4 @@ returns-2 c =
     lit-nan ∙ sym (ap (λ (z : Float). squash a ⊘ z) (squash-not-finite b (sym (c .before .finite .ensures) ∙ c .if1 .left)) ∙ nan-⊘ (squash a) .1)
 
 pub over-spec : {M : Type 1} → statement M
-over-spec = tie.close (tie.spec finite-requires squash-requires returns returns-2)
+over-spec = tie.close (tie.spec (λ c κs. search needs) (λ c κs. search needs) returns returns-2)

@@ -5,11 +5,6 @@ use Rattle.arithmetic.proofs.Operations.{squash-finite, squash-not-fini
 use Rattle.arithmetic.proofs.Literals.{lit-nan}
 use Rattle.arithmetic.proofs.checked.squash.Statement.{statement}
 use Rattle.arithmetic.proofs.checked.squash.Tie as tie
-use Rattle.arithmetic.proofs.checked.squash.Reads as reads
-use Rattle.arithmetic.proofs.checked.squash.Lts as lts
-
-finite-requires : tie.Need-finite-requires
-finite-requires c κs = search needs
 
 returns : tie.Need-returns
 returns c = sym (squash-finite (c .before .before .args .x) (sym (c .before .finite .ensures) ∙ c .if1 .taken))
@@ -18,4 +13,4 @@ returns-2 : tie.Need-returns-2
 returns-2 c = lit-nan ∙ sym (squash-not-finite (c .before .before .args .x) (sym (c .before .finite .ensures) ∙ c .if1 .left))
 
 pub squash-spec : {M : Type 1} → statement M
-squash-spec = tie.close (tie.spec finite-requires returns returns-2)
+squash-spec = tie.close (tie.spec (λ c κs. search needs) returns returns-2)

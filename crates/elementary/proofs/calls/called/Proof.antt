@@ -4,14 +4,6 @@ use borrow.Author.Needs.{needs}
 use Rattle.refusals.proofs.Needed.{need-passed, need-failed}
 use Rattle.elementary.proofs.calls.called.Statement.{statement}
 use Rattle.elementary.proofs.calls.called.Tie as tie
-use Rattle.elementary.proofs.calls.called.Reads as reads
-use Rattle.elementary.proofs.calls.called.Lts as lts
-
-finite-requires : tie.Need-finite-requires
-finite-requires c κs = search needs
-
-answer-from-requires : tie.Need-answer-from-requires
-answer-from-requires c κs = search needs
 
 returns : tie.Need-returns
 returns c =
@@ -21,4 +13,4 @@ returns-2 : tie.Need-returns-2
 returns-2 c = sym (need-failed _ _ _ (sym (c .before .finite .ensures) ∙ c .if1 .left))
 
 pub called-spec : {M : Type 1} → statement M
-called-spec = tie.close (tie.spec finite-requires answer-from-requires returns returns-2)
+called-spec = tie.close (tie.spec (λ c κs. search needs) (λ c κs. search needs) returns returns-2)

@@ -4,17 +4,9 @@ use borrow.Author.Needs.{needs}
 use Rattle.elementary.specs.Calls.{calledOf}
 use Rattle.elementary.proofs.calls.square_root.Statement.{statement}
 use Rattle.elementary.proofs.calls.square_root.Tie as tie
-use Rattle.elementary.proofs.calls.square_root.Reads as reads
-use Rattle.elementary.proofs.calls.square_root.Lts as lts
-
-root-requires : tie.Need-root-requires
-root-requires c κs = search needs
-
-called-requires : tie.Need-called-requires
-called-requires c κs = search needs
 
 returns : tie.Need-returns
 returns c = c .called .ensures ∙ ap (calledOf (c .before .before .args .x)) (c .before .root .ensures)
 
 pub square-root-spec : {M : Type 1} → statement M
-square-root-spec = tie.close (tie.spec root-requires called-requires returns)
+square-root-spec = tie.close (tie.spec (λ c κs. search needs) (λ c κs. search needs) returns)

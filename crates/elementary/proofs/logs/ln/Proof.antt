@@ -14,8 +14,6 @@ use Rattle.arithmetic.proofs.Literals.{lit-nan}
 use Rattle.elementary.proofs.Split.{m-low, m-high}
 use Rattle.elementary.proofs.logs.ln.Statement.{statement}
 use Rattle.elementary.proofs.logs.ln.Tie as tie
-use Rattle.elementary.proofs.logs.ln.Reads as reads
-use Rattle.elementary.proofs.logs.ln.Lts as lts
 
 finite-no-nan : (x : Float) → finite x ≡ true → T (not (isNan x))
 unfolding isNan
@@ -28,9 +26,6 @@ split-requires c κs = finite-no-nan _ (finite-within _ _ _ finite-two⁻60 fini
 
 work-requires : tie.Need-work-requires
 work-requires c κs = rw (c .split .ensures .0) (m-low _, m-high _)
-
-squash-requires : tie.Need-squash-requires
-squash-requires c κs = search needs
 
 returns : tie.Need-returns
 unfolding lnOf
@@ -50,4 +45,4 @@ unfolding lnOf
 returns-3 c = lit-nan ∙ sym (within-low _ _ _ _ (rw lit-two⁻60 at (c .if1 .left)))
 
 pub ln-spec : {M : Type 1} → statement M
-ln-spec = tie.close (tie.spec split-requires work-requires squash-requires returns returns-2 returns-3)
+ln-spec = tie.close (tie.spec split-requires work-requires (λ c κs. search needs) returns returns-2 returns-3)

@@ -2,8 +2,6 @@
 use borrow.Author.Tests.{lt-ltb, le-ltb}
 use Rattle.elementary.proofs.logs.m_field.Statement.{statement}
 use Rattle.elementary.proofs.logs.m_field.Tie as tie
-use Rattle.elementary.proofs.logs.m_field.Reads as reads
-use Rattle.elementary.proofs.logs.m_field.Lts as lts
 
 returns : tie.Need-returns
 returns c = simp (lt-ltb _ _ (c .if1 .taken))

@@ -16,9 +16,6 @@ use Rattle.elementary.specs.Ln.{mOf, eOf, mField, field, digits}
 use Rattle.elementary.proofs.Fields.{m-pattern-no-nan, m-pattern-fits, m-field-small}
 use Rattle.elementary.proofs.logs.split.Statement.{statement}
 use Rattle.elementary.proofs.logs.split.Tie as tie
-use Rattle.elementary.proofs.logs.split.Reads as reads
-use Rattle.elementary.proofs.logs.split.Lts as lts
-use Rattle.elementary.proofs.logs.m_field.Reads as m-field-reads
 
 -- ---- the difference of two fields
 difference-small : (a b : ℕ) → a < 2048 → b ≤ 1023 → mag (pos a -ℤ pos b) < 2048
@@ -85,9 +82,6 @@ module _ (x : Float) (r : ℕ) (e : r ≡ mField (digits x)) where
 float-to-bits-bits : tie.Need-float-to-bits-bits
 float-to-bits-bits c = search needs
 
-m-field-requires : tie.Need-m-field-requires
-m-field-requires c κs = search needs
-
 mul-pattern : tie.Need-mul-pattern
 mul-pattern c = omega (arith, under-small (c .before .args .x) (c .m-field .result) (c .m-field .ensures))
 
@@ -96,9 +90,6 @@ add-pattern c = pattern-fits (c .before .args .x) _ (c .m-field .ensures)
 
 float-from-bits-m : tie.Need-float-from-bits-m
 float-from-bits-m c = pattern-no-nan (c .before .args .x) _ (c .m-field .ensures)
-
-cast-above : tie.Need-cast-above
-cast-above c = search needs
 
 cast-below : tie.Need-cast-below
 cast-below c = omega (arith, under-small (c .before .args .x) (c .m-field .result) (c .m-field .ensures))
@@ -120,11 +111,11 @@ split-spec =
     tie.close
     (tie.spec
     float-to-bits-bits
-    m-field-requires
+    (λ c κs. search needs)
     mul-pattern
     add-pattern
     float-from-bits-m
-    cast-above
+    (λ c. search needs)
     cast-below
     sub-exponent
     int-to-float-e

@@ -12,8 +12,6 @@ use Rattle.arithmetic.proofs.Literals.{lit-1, squash-1}
 use Rattle.elementary.proofs.Literals.{lit-21}
 use Rattle.elementary.proofs.logs.steps.Statement.{statement}
 use Rattle.elementary.proofs.logs.steps.Tie as tie
-use Rattle.elementary.proofs.logs.steps.Reads as reads
-use Rattle.elementary.proofs.logs.steps.Lts as lts
 
 abbrev Inv-loop : tie.InvT-loop
 Inv-loop s h₀ k₀ h k = (k ≤ 10) × (lnSteps (squash s) k (squash h) ≡ lnSteps (squash s) 10 (real 1 ⊘ real 21))
@@ -26,15 +24,6 @@ loop-holds c = (omega arith, simp (lit-1, lit-21, squash-over, squash-1))
 
 sub-k : tie.Need-sub-k Inv-loop μ-loop
 sub-k c = omega arith
-
-mul-n : tie.Need-mul-n Inv-loop μ-loop
-mul-n c = search needs
-
-add-n : tie.Need-add-n Inv-loop μ-loop
-add-n c = search needs
-
-int-to-float-by : tie.Need-int-to-float-by Inv-loop μ-loop
-int-to-float-by c = search needs
 
 loop-less : tie.Need-loop-less Inv-loop μ-loop
 loop-less c = omega arith
@@ -55,4 +44,16 @@ returns c =
     rw z at (c .before .loop .inv .1)
 
 pub steps-spec : {M : Type 1} → statement M
-steps-spec = tie.close (tie.spec Inv-loop μ-loop loop-holds sub-k mul-n add-n int-to-float-by loop-less loop-again returns)
+steps-spec =
+    tie.close
+    (tie.spec
+    Inv-loop
+    μ-loop
+    loop-holds
+    sub-k
+    (λ c. search needs)
+    (λ c. search needs)
+    (λ c. search needs)
+    loop-less
+    loop-again
+    returns)

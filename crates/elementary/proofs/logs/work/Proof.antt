@@ -7,7 +7,7 @@ use lib.Ieee.{Float, binary64, add, sub, div, le, lt}
 use lib.Ieee.Bits.{is-true}
 use Rattle.arithmetic.specs.Checked.{squash, real, _e-_, _⊕_, _⊖_, _⊘_}
 use Rattle.elementary.specs.Ln.{lnWork}
-use Rattle.arithmetic.proofs.Operations.{squash-finite, ⊗-squash-left, squash-add, squash-sub, squash-mul, squash-div}
+use Rattle.arithmetic.proofs.Operations.{squash-finite, ⊗-left, squash-add, squash-sub, squash-mul, squash-div}
 use Rattle.arithmetic.proofs.Forced.{forced}
 use Rattle.arithmetic.proofs.Literals.{lit-1, lit-2, squash-1, squash-2}
 use Rattle.elementary.proofs.Literals.{lit-ln2, squash-ln2, finite-075, finite-15}
@@ -16,9 +16,6 @@ use Rattle.arithmetic.proofs.Within.{between-finite}
 use Rattle.elementary.proofs.Split.{plus-one-finite}
 use Rattle.elementary.proofs.logs.work.Statement.{statement}
 use Rattle.elementary.proofs.logs.work.Tie as tie
-use Rattle.elementary.proofs.logs.work.Reads as reads
-use Rattle.elementary.proofs.logs.work.Lts as lts
-use Rattle.elementary.proofs.logs.steps.Reads as steps-reads
 
 -- z, whose divisor is finite
 quotient : (m : Float) → T (le (75 e- 2) m) → T (lt m (15 e- 1)) →
@@ -27,15 +24,12 @@ quotient m a b =
     let f = squash-finite m (is-true _ (between-finite _ m _ finite-075 finite-15 a (lt→le m _ b))) in
     squash-div (sub binary64 m (real 1)) (add binary64 m (real 1)) (plus-one-finite m a b) ∙ simp (squash-sub, squash-add, squash-1, f)
 
-steps-requires : tie.Need-steps-requires
-steps-requires c κs = search needs
-
 returns : tie.Need-returns
 unfolding lnWork
 returns c =
     let m = c .before .args .m in
     let h = c .before .pre in
-    simp (forced, squash-add, squash-mul, c .steps .ensures, lit-1, lit-2, lit-ln2, squash-2, squash-ln2, ⊗-squash-left (c .before .args .e) _ squash-ln2, quotient m (h .0) (h .1))
+    simp (forced, squash-add, squash-mul, c .steps .ensures, lit-1, lit-2, lit-ln2, squash-2, squash-ln2, ⊗-left (c .before .args .e), quotient m (h .0) (h .1))
 
 pub work-spec : {M : Type 1} → statement M
-work-spec = tie.close (tie.spec steps-requires returns)
+work-spec = tie.close (tie.spec (λ c κs. search needs) returns)

@@ -9,22 +9,14 @@ use Rattle.arithmetic.proofs.Literals.{lit-0}
 use Rattle.exponentials.proofs.ExpRange.{exp-squash}
 use Rattle.elementary.proofs.powers.power.Statement.{statement}
 use Rattle.elementary.proofs.powers.power.Tie as tie
-use Rattle.elementary.proofs.powers.power.Reads as reads
-use Rattle.elementary.proofs.powers.power.Lts as lts
 
 returns : tie.Need-returns
 unfolding powerOf
 returns c = simp (lit-0, simp lit-0 at (c .if1 .taken))
-
-ln-requires : tie.Need-ln-requires
-ln-requires c κs = search needs
-
-exp-requires : tie.Need-exp-requires
-exp-requires c κs = search needs
 
 returns-2 : tie.Need-returns-2
 unfolding powerOf _⊗_
 returns-2 c = simp (simp lit-0 at (c .before .before .if1 .left)) (c .exp .ensures ∙ sym (exp-squash _) ∙ ap (λ (l : Float). expOf (c .before .before .before .args .t ⊗ l)) (c .before .ln .ensures))
 
 pub power-spec : {M : Type 1} → statement M
-power-spec = tie.close (tie.spec returns ln-requires exp-requires returns-2)
+power-spec = tie.close (tie.spec returns (λ c κs. search needs) (λ c κs. search needs) returns-2)

@@ -9,14 +9,6 @@ use Rattle.arithmetic.proofs.Literals.{lit-1, lit-nan}
 use Rattle.elementary.proofs.Literals.{lit-1e8, finite-1, finite-1e8}
 use Rattle.elementary.proofs.roots.root.Statement.{statement}
 use Rattle.elementary.proofs.roots.root.Tie as tie
-use Rattle.elementary.proofs.roots.root.Reads as reads
-use Rattle.elementary.proofs.roots.root.Lts as lts
-
-steps-requires : tie.Need-steps-requires
-steps-requires c κs = search needs
-
-squash-requires : tie.Need-squash-requires
-squash-requires c κs = search needs
 
 returns : tie.Need-returns
 unfolding rootOf
@@ -38,4 +30,4 @@ unfolding rootOf
 returns-3 c = lit-nan ∙ sym (within-low _ _ _ _ (rw lit-1 at (c .if1 .left)))
 
 pub root-spec : {M : Type 1} → statement M
-root-spec = tie.close (tie.spec steps-requires squash-requires returns returns-2 returns-3)
+root-spec = tie.close (tie.spec (λ c κs. search needs) (λ c κs. search needs) returns returns-2 returns-3)

@@ -12,8 +12,6 @@ use Rattle.arithmetic.proofs.Literals.{lit-2}
 use Rattle.elementary.proofs.Literals.{lit-256, squash-256}
 use Rattle.elementary.proofs.roots.steps.Statement.{statement}
 use Rattle.elementary.proofs.roots.steps.Tie as tie
-use Rattle.elementary.proofs.roots.steps.Reads as reads
-use Rattle.elementary.proofs.roots.steps.Lts as lts
 
 step-inf : (x : Float) (s : Bool) → squash (add binary64 (inf s) (div binary64 x (inf s))) ≡ nan
 unfolding add div

@@ -2,27 +2,6 @@
 use borrow.Author.Needs.{needs}
 use Rattle.equation.proofs.sums.settled.Statement.{statement}
 use Rattle.equation.proofs.sums.settled.Tie as tie
-use Rattle.equation.proofs.sums.settled.Reads as reads
-use Rattle.equation.proofs.sums.settled.Lts as lts
-use Rattle.arithmetic.proofs.squash.Reads as squash-reads
-
-squash-requires : tie.Need-squash-requires
-squash-requires c κs = search needs
-
-squash-requires-2 : tie.Need-squash-requires-2
-squash-requires-2 c κs = search needs
-
-squash-requires-3 : tie.Need-squash-requires-3
-squash-requires-3 c κs = search needs
-
-squash-requires-4 : tie.Need-squash-requires-4
-squash-requires-4 c κs = search needs
-
-squash-requires-5 : tie.Need-squash-requires-5
-squash-requires-5 c κs = search needs
-
-squash-requires-6 : tie.Need-squash-requires-6
-squash-requires-6 c κs = search needs
 
 returns : tie.Need-returns
 returns c =
@@ -36,4 +15,4 @@ returns c =
 pub settled-spec : {M : Type 1} → statement M
 settled-spec =
     tie.close
-    (tie.spec squash-requires squash-requires-2 squash-requires-3 squash-requires-4 squash-requires-5 squash-requires-6 returns)
+    (tie.spec (λ c κs. search needs) (λ c κs. search needs) (λ c κs. search needs) (λ c κs. search needs) (λ c κs. search needs) (λ c κs. search needs) returns)

@@ -5,8 +5,6 @@ use Rattle.exponentials.proofs.Literals.{lit-700, lit-minus-700}
 use Rattle.arithmetic.proofs.Literals.{lit-nan}
 use Rattle.exponentials.proofs.exps.in_range.Statement.{statement}
 use Rattle.exponentials.proofs.exps.in_range.Tie as tie
-use Rattle.exponentials.proofs.exps.in_range.Reads as reads
-use Rattle.exponentials.proofs.exps.in_range.Lts as lts
 
 returns : tie.Need-returns
 returns c = sym (within-in _ _ _ _ (rw lit-minus-700 at (c .before .if1 .taken)) (rw lit-700 at (c .if2 .taken)))

@@ -4,15 +4,9 @@ use Rattle.arithmetic.proofs.Operations.{squash-mul}
 use Rattle.exponentials.proofs.Literals.{lit-two⁻10, squash-two⁻10}
 use Rattle.exponentials.proofs.exps.scaled.Statement.{statement}
 use Rattle.exponentials.proofs.exps.scaled.Tie as tie
-use Rattle.exponentials.proofs.exps.scaled.Reads as reads
-use Rattle.exponentials.proofs.exps.scaled.Lts as lts
-use Rattle.exponentials.proofs.exps.in_range.Reads as in-range-reads
-
-in-range-requires : tie.Need-in-range-requires
-in-range-requires c κs = search needs
 
 returns : tie.Need-returns
 returns c = simp (squash-mul, lit-two⁻10, squash-two⁻10, c .in-range .ensures)
 
 pub scaled-spec : {M : Type 1} → statement M
-scaled-spec = tie.close (tie.spec in-range-requires returns)
+scaled-spec = tie.close (tie.spec (λ c κs. search needs) returns)

@@ -10,9 +10,6 @@ use Rattle.exponentials.proofs.ExpTurn.{exp-turn}
 use Rattle.arithmetic.proofs.Literals.{lit-1, squash-1}
 use Rattle.exponentials.proofs.exps.steps.Statement.{statement}
 use Rattle.exponentials.proofs.exps.steps.Tie as tie
-use Rattle.exponentials.proofs.exps.steps.Reads as reads
-use Rattle.exponentials.proofs.exps.steps.Lts as lts
-use Rattle.exponentials.proofs.exps.step.Reads as step-reads
 
 abbrev Inv-loop : tie.InvT-loop
 Inv-loop y h₀ n₀ h n = expSteps (squash y) n (squash h) ≡ expSteps (squash y) 16 (real 1)
@@ -22,12 +19,6 @@ abbrev μ-loop : tie.MeasureT-loop
 
 loop-holds : tie.Need-loop-holds Inv-loop μ-loop
 loop-holds c = simp (lit-1, squash-1)
-
-int-to-float-by : tie.Need-int-to-float-by Inv-loop μ-loop
-int-to-float-by c = search needs
-
-step-requires : tie.Need-step-requires Inv-loop μ-loop
-step-requires c κs = search needs
 
 sub-n : tie.Need-sub-n Inv-loop μ-loop
 sub-n c = omega arith
@@ -49,4 +40,15 @@ returns c =
     rw z at (c .before .loop .inv)
 
 pub steps-spec : {M : Type 1} → statement M
-steps-spec = tie.close (tie.spec Inv-loop μ-loop loop-holds int-to-float-by step-requires sub-n loop-less loop-again returns)
+steps-spec =
+    tie.close
+    (tie.spec
+    Inv-loop
+    μ-loop
+    loop-holds
+    (λ c. search needs)
+    (λ c κs. search needs)
+    sub-n
+    loop-less
+    loop-again
+    returns)

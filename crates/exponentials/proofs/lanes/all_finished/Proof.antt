@@ -11,9 +11,6 @@ use Rattle.arithmetic.specs.Lanes.{lane}
 use Rattle.arithmetic.proofs.Places.{Worked, none-worked, one-worked, all-worked}
 use Rattle.exponentials.proofs.lanes.all_finished.Statement.{statement}
 use Rattle.exponentials.proofs.lanes.all_finished.Tie as tie
-use Rattle.exponentials.proofs.lanes.all_finished.Reads as reads
-use Rattle.exponentials.proofs.lanes.all_finished.Lts as lts
-use Rattle.exponentials.proofs.exps.finished.Reads as finished-reads
 
 abbrev Done : List Float → ℕ → Float → Type 0
 Done h k v = v ≡ squared 10 (squash (lane h k))
@@ -26,27 +23,6 @@ abbrev μ-loop : tie.MeasureT-loop
 
 loop-holds : tie.Need-loop-holds Inv-loop μ-loop
 loop-holds c = (omega arith, none-worked 7 _ _ _ refl (λ k p. tt))
-
-mul-finished : tie.Need-mul-finished Inv-loop μ-loop
-mul-finished c = search needs
-
-array-read-finished : tie.Need-array-read-finished Inv-loop μ-loop
-array-read-finished c = search needs
-
-finished-requires : tie.Need-finished-requires Inv-loop μ-loop
-finished-requires c κs = search needs
-
-mul-exps : tie.Need-mul-exps Inv-loop μ-loop
-mul-exps c = search needs
-
-array-write-exps : tie.Need-array-write-exps Inv-loop μ-loop
-array-write-exps c = search needs
-
-add-i : tie.Need-add-i Inv-loop μ-loop
-add-i c = search needs
-
-loop-less : tie.Need-loop-less Inv-loop μ-loop
-loop-less c = search needs
 
 loop-again : tie.Need-loop-again Inv-loop μ-loop
 loop-again c =
@@ -63,12 +39,12 @@ all-finished-spec =
     Inv-loop
     μ-loop
     loop-holds
-    mul-finished
-    array-read-finished
-    finished-requires
-    mul-exps
-    array-write-exps
-    add-i
-    loop-less
+    (λ c. search needs)
+    (λ c. search needs)
+    (λ c κs. search needs)
+    (λ c. search needs)
+    (λ c. search needs)
+    (λ c. search needs)
+    (λ c. search needs)
     loop-again
     returns)

@@ -10,9 +10,6 @@ use Rattle.arithmetic.specs.Lanes.{lane}
 use Rattle.arithmetic.proofs.Places.{Worked, none-worked, one-worked, all-worked}
 use Rattle.exponentials.proofs.lanes.all_scaled.Statement.{statement}
 use Rattle.exponentials.proofs.lanes.all_scaled.Tie as tie
-use Rattle.exponentials.proofs.lanes.all_scaled.Reads as reads
-use Rattle.exponentials.proofs.lanes.all_scaled.Lts as lts
-use Rattle.exponentials.proofs.exps.scaled.Reads as scaled-reads
 
 abbrev Done : List Float → ℕ → Float → Type 0
 Done x k v = squash v ≡ squash (within (minus (real 700)) (real 700) (lane x k) (lane x k)) ⊗ two⁻ 10
@@ -25,27 +22,6 @@ abbrev μ-loop : tie.MeasureT-loop
 
 loop-holds : tie.Need-loop-holds Inv-loop μ-loop
 loop-holds c = (omega arith, none-worked 7 _ _ _ refl (λ k p. tt))
-
-mul-scaled : tie.Need-mul-scaled Inv-loop μ-loop
-mul-scaled c = search needs
-
-array-read-scaled : tie.Need-array-read-scaled Inv-loop μ-loop
-array-read-scaled c = search needs
-
-scaled-requires : tie.Need-scaled-requires Inv-loop μ-loop
-scaled-requires c κs = search needs
-
-mul-y : tie.Need-mul-y Inv-loop μ-loop
-mul-y c = search needs
-
-array-write-y : tie.Need-array-write-y Inv-loop μ-loop
-array-write-y c = search needs
-
-add-i : tie.Need-add-i Inv-loop μ-loop
-add-i c = search needs
-
-loop-less : tie.Need-loop-less Inv-loop μ-loop
-loop-less c = search needs
 
 loop-again : tie.Need-loop-again Inv-loop μ-loop
 loop-again c =
@@ -62,12 +38,12 @@ all-scaled-spec =
     Inv-loop
     μ-loop
     loop-holds
-    mul-scaled
-    array-read-scaled
-    scaled-requires
-    mul-y
-    array-write-y
-    add-i
-    loop-less
+    (λ c. search needs)
+    (λ c. search needs)
+    (λ c κs. search needs)
+    (λ c. search needs)
+    (λ c. search needs)
+    (λ c. search needs)
+    (λ c. search needs)
     loop-again
     returns)

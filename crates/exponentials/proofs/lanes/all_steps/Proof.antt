@@ -16,9 +16,6 @@ use Rattle.exponentials.proofs.ExpTurn.{exp-turn}
 use Rattle.arithmetic.proofs.Places.{Worked, none-worked, one-worked, all-worked}
 use Rattle.exponentials.proofs.lanes.all_steps.Statement.{statement}
 use Rattle.exponentials.proofs.lanes.all_steps.Tie as tie
-use Rattle.exponentials.proofs.lanes.all_steps.Reads as reads
-use Rattle.exponentials.proofs.lanes.all_steps.Lts as lts
-use Rattle.exponentials.proofs.exps.step.Reads as step-reads
 
 -- from v, the n steps that are left end where all sixteen do
 abbrev Left : List Float → ℕ → ℕ → Float → Type 0
@@ -44,38 +41,8 @@ loop-holds c = (
       ∙ ap (expSteps (squash (lane (c .args .t1) k)) 16) squash-1,
 )
 
-int-to-float-by : tie.Need-int-to-float-by Inv-loop2 μ-loop2 Inv-loop μ-loop
-int-to-float-by c = search needs
-
 loop2-holds : tie.Need-loop2-holds Inv-loop2 μ-loop2 Inv-loop μ-loop
 loop2-holds c = let inv = c .before .before .loop .inv in (omega arith, none-worked 7 _ _ _ (inv .0) (inv .1))
-
-mul-step : tie.Need-mul-step Inv-loop2 μ-loop2 Inv-loop μ-loop
-mul-step c = search needs
-
-array-read-step : tie.Need-array-read-step Inv-loop2 μ-loop2 Inv-loop μ-loop
-array-read-step c = search needs
-
-mul-step-2 : tie.Need-mul-step-2 Inv-loop2 μ-loop2 Inv-loop μ-loop
-mul-step-2 c = search needs
-
-array-read-step-2 : tie.Need-array-read-step-2 Inv-loop2 μ-loop2 Inv-loop μ-loop
-array-read-step-2 c = search needs
-
-step-requires : tie.Need-step-requires Inv-loop2 μ-loop2 Inv-loop μ-loop
-step-requires c κs = search needs
-
-mul-h : tie.Need-mul-h Inv-loop2 μ-loop2 Inv-loop μ-loop
-mul-h c = search needs
-
-array-write-h : tie.Need-array-write-h Inv-loop2 μ-loop2 Inv-loop μ-loop
-array-write-h c = search needs
-
-add-i : tie.Need-add-i Inv-loop2 μ-loop2 Inv-loop μ-loop
-add-i c = search needs
-
-loop2-less : tie.Need-loop2-less Inv-loop2 μ-loop2 Inv-loop μ-loop
-loop2-less c = search needs
 
 loop2-again : tie.Need-loop2-again Inv-loop2 μ-loop2 Inv-loop μ-loop
 loop2-again c =
@@ -120,17 +87,17 @@ all-steps-spec =
     Inv-loop
     μ-loop
     loop-holds
-    int-to-float-by
+    (λ c. search needs)
     loop2-holds
-    mul-step
-    array-read-step
-    mul-step-2
-    array-read-step-2
-    step-requires
-    mul-h
-    array-write-h
-    add-i
-    loop2-less
+    (λ c. search needs)
+    (λ c. search needs)
+    (λ c. search needs)
+    (λ c. search needs)
+    (λ c κs. search needs)
+    (λ c. search needs)
+    (λ c. search needs)
+    (λ c. search needs)
+    (λ c. search needs)
     loop2-again
     sub-n
     loop-less

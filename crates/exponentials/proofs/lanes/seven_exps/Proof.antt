@@ -10,20 +10,6 @@ use Rattle.exponentials.proofs.ExpWorked.{exp-worked, exp-at}
 use borrow.Author.Needs.{needs}
 use Rattle.exponentials.proofs.lanes.seven_exps.Statement.{statement}
 use Rattle.exponentials.proofs.lanes.seven_exps.Tie as tie
-use Rattle.exponentials.proofs.lanes.seven_exps.Reads as reads
-use Rattle.exponentials.proofs.lanes.seven_exps.Lts as lts
-use Rattle.exponentials.proofs.lanes.all_finished.Reads as all-finished-reads
-use Rattle.exponentials.proofs.lanes.all_scaled.Reads as all-scaled-reads
-use Rattle.exponentials.proofs.lanes.all_steps.Reads as all-steps-reads
-
-all-scaled-requires : tie.Need-all-scaled-requires
-all-scaled-requires c κs = search needs
-
-all-steps-requires : tie.Need-all-steps-requires
-all-steps-requires c κs = search needs
-
-all-finished-requires : tie.Need-all-finished-requires
-all-finished-requires c κs = search needs
 
 returns : tie.Need-returns
 returns c =
@@ -40,4 +26,4 @@ returns c =
 
 pub seven-exps-spec : {M : Type 1} → statement M
 seven-exps-spec =
-    tie.close (tie.spec all-scaled-requires all-steps-requires all-finished-requires returns)
+    tie.close (tie.spec (λ c κs. search needs) (λ c κs. search needs) (λ c κs. search needs) returns)

@@ -5,15 +5,6 @@ use borrow.Author.Needs.{needs}
 use Rattle.isotherm.proofs.pairs.differs.Statement.{statement}
 use Rattle.isotherm.proofs.pairs.differs.Tie as tie
 
-plain-requires : tie.Need-plain-requires
-plain-requires c κs = search needs
-
-quick-requires : tie.Need-quick-requires
-quick-requires c κs = search needs
-
-same-requires : tie.Need-same-requires
-same-requires c κs = search needs
-
 returns : tie.Need-returns
 returns c =
     let asked = c .before .before in
@@ -25,4 +16,11 @@ returns-2 c =
     (other-counts-1 _ _ _ _ _ _ _ _ _ (asked .before .plain .ensures) (asked .quick .ensures) (c .before .same .ensures) (c .if1 .left), omega arith)
 
 pub differs-spec : {M : Type 1} → statement M
-differs-spec = tie.close (tie.spec plain-requires quick-requires same-requires returns returns-2)
+differs-spec =
+    tie.close
+    (tie.spec
+    (λ c κs. search needs)
+    (λ c κs. search needs)
+    (λ c κs. search needs)
+    returns
+    returns-2)

@@ -21,30 +21,15 @@ loop-holds : tie.Need-loop-holds Inv-loop μ-loop
 unfolding differing
 loop-holds c = (omega arith, omega arith, refl)
 
-add-next : tie.Need-add-next Inv-loop μ-loop
-add-next c = search needs
-
-mul-pascals : tie.Need-mul-pascals Inv-loop μ-loop
-mul-pascals c = search needs
-
 int-to-float-p : tie.Need-int-to-float-p Inv-loop μ-loop
 unfolding inFloat
 int-to-float-p c = le→leb (100000 * (c .before .before .loop .n + 1)) 9007199254740992 (omega arith)
-
-differs-requires : tie.Need-differs-requires Inv-loop μ-loop
-differs-requires c κs = search needs
-
-differs-requires-2 : tie.Need-differs-requires-2 Inv-loop μ-loop
-differs-requires-2 c κs = search needs
 
 add-more : tie.Need-add-more Inv-loop μ-loop
 add-more c = omega (arith, c .before .differs .ensures .1, c .differs2 .ensures .1)
 
 add-count : tie.Need-add-count Inv-loop μ-loop
 add-count c = omega (arith, c .before .differs .ensures .1, c .differs2 .ensures .1)
-
-loop-less : tie.Need-loop-less Inv-loop μ-loop
-loop-less c = search needs
 
 loop-again : tie.Need-loop-again Inv-loop μ-loop
 loop-again c =
@@ -67,13 +52,13 @@ pairs-that-differ-spec =
     Inv-loop
     μ-loop
     loop-holds
-    add-next
-    mul-pascals
+    (λ c. search needs)
+    (λ c. search needs)
     int-to-float-p
-    differs-requires
-    differs-requires-2
+    (λ c κs. search needs)
+    (λ c κs. search needs)
     add-more
     add-count
-    loop-less
+    (λ c. search needs)
     loop-again
     returns)

@@ -6,24 +6,6 @@ use borrow.Author.Needs.{needs}
 use Rattle.isotherm.proofs.pairs.same.Statement.{statement}
 use Rattle.isotherm.proofs.pairs.same.Tie as tie
 
-found-code-requires : tie.Need-found-code-requires
-found-code-requires c κs = search needs
-
-found-code-requires-2 : tie.Need-found-code-requires-2
-found-code-requires-2 c κs = search needs
-
-found-bits-requires : tie.Need-found-bits-requires
-found-bits-requires c κs = search needs
-
-found-bits-requires-2 : tie.Need-found-bits-requires-2
-found-bits-requires-2 c κs = search needs
-
-found-word-requires : tie.Need-found-word-requires
-found-word-requires c κs = search needs
-
-found-word-requires-2 : tie.Need-found-word-requires-2
-found-word-requires-2 c κs = search needs
-
 returns : tie.Need-returns
 unfolding sameOf
 returns c =
@@ -59,12 +41,12 @@ pub same-spec : {M : Type 1} → statement M
 same-spec =
     tie.close
     (tie.spec
-    found-code-requires
-    found-code-requires-2
-    found-bits-requires
-    found-bits-requires-2
-    found-word-requires
-    found-word-requires-2
+    (λ c κs. search needs)
+    (λ c κs. search needs)
+    (λ c κs. search needs)
+    (λ c κs. search needs)
+    (λ c κs. search needs)
+    (λ c κs. search needs)
     returns
     returns-2
     returns-3)

@@ -4,17 +4,6 @@ use Rattle.lines.specs.Text.{glyphOf}
 use borrow.Author.Needs.{needs}
 use Rattle.lines.proofs.text.glyph.Statement.{statement}
 use Rattle.lines.proofs.text.glyph.Tie as tie
-use Rattle.lines.proofs.text.glyph.Reads as reads
-use Rattle.lines.proofs.text.glyph.Lts as lts
-
-cast-digit : tie.Need-cast-digit
-cast-digit c = search needs
-
-add-result : tie.Need-add-result
-add-result c = search needs
-
-add-result-2 : tie.Need-add-result-2
-add-result-2 c = search needs
 
 returns : tie.Need-returns
 unfolding glyphOf
@@ -25,4 +14,4 @@ unfolding glyphOf
 returns-2 c = simp (le-ltb _ _ (c .if1 .left))
 
 pub glyph-spec : {M : Type 1} → statement M
-glyph-spec = tie.close (tie.spec cast-digit add-result add-result-2 returns returns-2)
+glyph-spec = tie.close (tie.spec (λ c. search needs) (λ c. search needs) (λ c. search needs) returns returns-2)

@@ -4,20 +4,9 @@ use Rattle.lines.proofs.Placing.{one}
 use borrow.Author.Needs.{needs}
 use Rattle.lines.proofs.text.put_byte.Statement.{statement}
 use Rattle.lines.proofs.text.put_byte.Tie as tie
-use Rattle.lines.proofs.text.put_byte.Reads as reads
-use Rattle.lines.proofs.text.put_byte.Lts as lts
-
-slice-write-out : tie.Need-slice-write-out
-slice-write-out c = search needs
-
-add-result : tie.Need-add-result
-add-result c = search needs
-
-same-length : tie.Need-same-length
-same-length c = search needs
 
 returns : tie.Need-returns
 returns c = one (c .args .at) (c .args .b) (c .args .out .now) (omega arith)
 
 pub put-byte-spec : {M : Type 1} → statement M
-put-byte-spec = tie.close (tie.spec slice-write-out add-result same-length returns)
+put-byte-spec = tie.close (tie.spec (λ c. search needs) (λ c. search needs) (λ c. search needs) returns)

@@ -8,21 +8,11 @@ use Rattle.lines.proofs.Placing.{as-text}
 use borrow.Author.Needs.{needs}
 use Rattle.lines.proofs.text.put_decimal.Statement.{statement}
 use Rattle.lines.proofs.text.put_decimal.Tie as tie
-use Rattle.lines.proofs.text.put_decimal.Reads as reads
-use Rattle.lines.proofs.text.put_decimal.Lts as lts
-use Rattle.lines.proofs.text.put_digits.Reads as put-digits-reads
-use Rattle.lines.proofs.text.width.Reads as width-reads
-
-width-requires : tie.Need-width-requires
-width-requires c κs = search needs
 
 put-digits-requires : tie.Need-put-digits-requires
 put-digits-requires c κs =
     let n = c .before .before .before .args .n in
     omega (arith, width-small n)
-
-same-length : tie.Need-same-length
-same-length c = search needs
 
 returns : tie.Need-returns
 unfolding decimalOf
@@ -33,4 +23,4 @@ returns c =
     as-text (ap (λ (k : ℕ). digitsOf 10 k n) (width .width .ensures)) (put .put-digits .ensures)
 
 pub put-decimal-spec : {M : Type 1} → statement M
-put-decimal-spec = tie.close (tie.spec width-requires put-digits-requires same-length returns)
+put-decimal-spec = tie.close (tie.spec (λ c κs. search needs) put-digits-requires (λ c. search needs) returns)

@@ -8,8 +8,6 @@ use Rattle.lines.specs.Text.{widthOf}
 use Rattle.lines.proofs.Digits.{one-digit, more-digits}
 use Rattle.lines.proofs.text.width.Statement.{statement}
 use Rattle.lines.proofs.text.width.Tie as tie
-use Rattle.lines.proofs.text.width.Reads as reads
-use Rattle.lines.proofs.text.width.Lts as lts
 
 -- the twentieth digit is the last
 last : (w rest n : ℕ) → w ≡ 20 → w + widthOf (20 - w) rest ≡ widthOf 19 n + 1 → w ≡ widthOf 19 n
@@ -28,12 +26,6 @@ loop-holds c = (omega arith, omega arith, omega arith)
 returns : tie.Need-returns Inv-loop μ-loop
 returns c = omega (arith, one-digit (20 - c .before .before .loop .w) (c .before .before .loop .rest) (c .if1 .taken))
 
-add-w : tie.Need-add-w Inv-loop μ-loop
-add-w c = search needs
-
-loop-less : tie.Need-loop-less Inv-loop μ-loop
-loop-less c = search needs
-
 loop-again : tie.Need-loop-again Inv-loop μ-loop
 loop-again c =
     let w = c .before .before .loop .w in
@@ -49,4 +41,13 @@ returns-2 c =
 
 pub width-spec : {M : Type 1} → statement M
 width-spec =
-    tie.close (tie.spec Inv-loop μ-loop loop-holds returns add-w loop-less loop-again returns-2)
+    tie.close
+    (tie.spec
+    Inv-loop
+    μ-loop
+    loop-holds
+    returns
+    (λ c. search needs)
+    (λ c. search needs)
+    loop-again
+    returns-2)

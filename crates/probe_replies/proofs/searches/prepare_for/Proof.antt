@@ -1,36 +1,22 @@
 -- `prepare_for` meets its contract: the lists serve what they served, or the temperature that they were prepared for. Assumes nothing.
+use Rattle.fluids.specs.declared.Fluid.the-variants.{R245ca}
 use Rattle.probe_replies.proofs.Served.{serves-same, serves-other}
 use Rattle.density.proofs.Served.{prepared-serves}
 use borrow.Author.Needs.{needs}
 use Rattle.probe_replies.proofs.searches.prepare_for.Statement.{statement}
 use Rattle.probe_replies.proofs.searches.prepare_for.Tie as tie
 
-over-lists-requires : tie.Need-over-lists-requires
-over-lists-requires c κs = search needs
-
 returns : tie.Need-returns
 returns c =
     let start = c .before .before .before .before .before in
     (start .pre, serves-same (start .args .call) _ _ _ _ (c .if2 .taken) (start .pre))
-
-number-requires : tie.Need-number-requires
-number-requires c κs = search needs
-
-prepare-requires : tie.Need-prepare-requires
-prepare-requires c κs = search needs
-
-same-length : tie.Need-same-length
-same-length c = search needs
-
-same-length-2 : tie.Need-same-length-2
-same-length-2 c = search needs
 
 returns-2 : tie.Need-returns-2
 returns-2 c =
     let prepared = c .before .before .before .before in
     let number = prepared .before .before .before in
     let start = number .before .before .before .before .before .before in
-    let serves = prepared-serves 1664 _ _ _ _ _ _ _ (start .pre) (number .number .ensures) (prepared .prepare .ensures .1) (prepared .prepare .ensures .2) in
+    let serves = prepared-serves R245ca 1664 _ _ _ _ _ _ _ (start .pre) (number .number .ensures) (prepared .prepare .ensures .1) (prepared .prepare .ensures .2) in
     (serves, λ over. serves)
 
 returns-3 : tie.Need-returns-3
@@ -42,11 +28,11 @@ pub prepare-for-spec : {M : Type 1} → statement M
 prepare-for-spec =
     tie.close
     (tie.spec
-    over-lists-requires
+    (λ c κs. search needs)
     returns
-    number-requires
-    prepare-requires
-    same-length
-    same-length-2
+    (λ c κs. search needs)
+    (λ c κs. search needs)
+    (λ c. search needs)
+    (λ c. search needs)
     returns-2
     returns-3)

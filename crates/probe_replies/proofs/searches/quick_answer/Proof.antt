@@ -6,12 +6,6 @@ use borrow.Author.Needs.{needs}
 use Rattle.probe_replies.proofs.searches.quick_answer.Statement.{statement}
 use Rattle.probe_replies.proofs.searches.quick_answer.Tie as tie
 
-quick-requires : tie.Need-quick-requires
-quick-requires c κs = search needs
-
-found-answer-requires : tie.Need-found-answer-requires
-found-answer-requires c κs = search needs
-
 returns : tie.Need-returns
 unfolding quickAnswer
 returns c =
@@ -19,4 +13,4 @@ returns c =
     c .found-answer .ensures ∙ ap foundAnswerOf (c .before .quick .ensures ∙ start .pre .alike _ _)
 
 pub quick-answer-spec : {M : Type 1} → statement M
-quick-answer-spec = tie.close (tie.spec quick-requires found-answer-requires returns)
+quick-answer-spec = tie.close (tie.spec (λ c κs. search needs) (λ c κs. search needs) returns)

@@ -1,64 +1,12 @@
--- `isochoric_heat_capacity` meets its contract: the permit's answer where it is denied, and the value's where it is granted. Assumes nothing.
-use mathlib.Core.Path.{sym, _∙_, ap}
+-- `isochoric_heat_capacity` meets its contract: it is the call of its property. Assumes nothing.
 use borrow.Author.Needs.{needs}
-use Rattle.refusals.proofs.Needed.{permitted-granted, permitted-denied}
-use Rattle.arithmetic.specs.Answered.{answerFrom}
-use Rattle.fluids.specs.R245ca.{r245ca}
-use Rattle.values.specs.Values.{isochoricValue}
 use Rattle.properties.specs.Calls.{isochoricOf}
 use Rattle.properties.proofs.calls.isochoric_heat_capacity.Statement.{statement}
 use Rattle.properties.proofs.calls.isochoric_heat_capacity.Tie as tie
-use Rattle.properties.proofs.calls.isochoric_heat_capacity.Reads as reads
-use Rattle.properties.proofs.calls.isochoric_heat_capacity.Lts as lts
-use Rattle.arithmetic.proofs.answer_from.Reads as answer-from-reads
-use Rattle.inputs.proofs.state_inputs.Reads as state-inputs-reads
-use Rattle.properties.proofs.calls.worked_density.Reads as worked-density-reads
-use Rattle.values.proofs.isochoric_value.Reads as isochoric-value-reads
-
-state-inputs-requires : tie.Need-state-inputs-requires
-state-inputs-requires c κs = search needs
-
-enum-told : tie.Need-enum-told
-enum-told c = search needs
-
-worked-density-requires : tie.Need-worked-density-requires
-worked-density-requires c κs = search needs
-
-isochoric-value-requires : tie.Need-isochoric-value-requires
-isochoric-value-requires c κs = search needs
-
-answer-from-requires : tie.Need-answer-from-requires
-answer-from-requires c κs = search needs
-
-enum-known-permit : tie.Need-enum-known-permit
-enum-known-permit c = search needs
 
 returns : tie.Need-returns
 unfolding isochoricOf
-returns c =
-    let valued = c .before in
-    let told = valued .before .before in
-    let permit = told .before .before in
-    let t = permit .before .args .t in
-    c .answer-from .ensures
-    ∙ ap answerFrom (valued .isochoric-value .ensures ∙ ap (isochoricValue r245ca t) (valued .before .worked-density .ensures))
-    ∙ sym (permitted-granted _ _ (sym (permit .state-inputs .ensures) ∙ told .enum-told .given .1))
-
-returns-2 : tie.Need-returns-2
-unfolding isochoricOf
-returns-2 c =
-    let permit = c .before .before .before in
-    sym (permitted-denied _ _ _ (sym (permit .state-inputs .ensures) ∙ c .before .permit .given .1))
+returns c = c .answer-of .ensures
 
 pub isochoric-heat-capacity-spec : {M : Type 1} → statement M
-isochoric-heat-capacity-spec =
-    tie.close
-    (tie.spec
-    state-inputs-requires
-    enum-told
-    worked-density-requires
-    isochoric-value-requires
-    answer-from-requires
-    enum-known-permit
-    returns
-    returns-2)
+isochoric-heat-capacity-spec = tie.close (tie.spec (λ c κs. search needs) returns)

@@ -5,16 +5,6 @@ use Rattle.arithmetic.proofs.Literals.{lit-0}
 use Rattle.properties.specs.Calls.{stableOf}
 use Rattle.properties.proofs.calls.stability_permit.Statement.{statement}
 use Rattle.properties.proofs.calls.stability_permit.Tie as tie
-use Rattle.properties.proofs.calls.stability_permit.Reads as reads
-use Rattle.properties.proofs.calls.stability_permit.Lts as lts
-use Rattle.arithmetic.proofs.both_finite.Reads as both-finite-reads
-use Rattle.arithmetic.proofs.finite.Reads as finite-reads
-
-finite-requires : tie.Need-finite-requires
-finite-requires c κs = search needs
-
-both-finite-requires : tie.Need-both-finite-requires
-both-finite-requires c κs = search needs
 
 returns : tie.Need-returns
 unfolding stableOf
@@ -62,4 +52,4 @@ returns-5 c =
 pub stability-permit-spec : {M : Type 1} → statement M
 stability-permit-spec =
     tie.close
-    (tie.spec finite-requires both-finite-requires returns returns-2 returns-3 returns-4 returns-5)
+    (tie.spec (λ c κs. search needs) (λ c κs. search needs) returns returns-2 returns-3 returns-4 returns-5)

@@ -3,8 +3,6 @@ use Rattle.arithmetic.proofs.Literals.{lit-0}
 use Rattle.properties.specs.Calls.{workedDensity}
 use Rattle.properties.proofs.calls.worked_density.Statement.{statement}
 use Rattle.properties.proofs.calls.worked_density.Tie as tie
-use Rattle.properties.proofs.calls.worked_density.Reads as reads
-use Rattle.properties.proofs.calls.worked_density.Lts as lts
 
 returns : tie.Need-returns
 unfolding workedDensity

@@ -12,18 +12,6 @@ use Rattle.records.proofs.reader.lettered.Tie as tie
 by-letter : (s : List ℕ) {b known : ℕ} {r : Record} → b ≡ known → r ≡ letteredOf known s → r ≡ letteredOf b s
 by-letter s e f = f ∙ sym (ap (λ (b : ℕ). letteredOf b s) e)
 
-numbers-requires : tie.Need-numbers-requires
-numbers-requires c κs = search needs
-
-numbers-requires-2 : tie.Need-numbers-requires-2
-numbers-requires-2 c κs = search needs
-
-numbers-requires-3 : tie.Need-numbers-requires-3
-numbers-requires-3 c κs = search needs
-
-numbers-requires-4 : tie.Need-numbers-requires-4
-numbers-requires-4 c κs = search needs
-
 returns : tie.Need-returns
 returns c = by-letter _ (c .before .match .keys1) (c .numbers .ensures)
 
@@ -54,10 +42,10 @@ pub lettered-spec : {M : Type 1} → statement M
 lettered-spec =
     tie.close
     (tie.spec
-    numbers-requires
-    numbers-requires-2
-    numbers-requires-3
-    numbers-requires-4
+    (λ c κs. search needs)
+    (λ c κs. search needs)
+    (λ c κs. search needs)
+    (λ c κs. search needs)
     returns
     returns-2
     returns-3

@@ -5,30 +5,6 @@ use borrow.Author.Needs.{needs}
 use Rattle.records.proofs.reader.numbers.Statement.{statement}
 use Rattle.records.proofs.reader.numbers.Tie as tie
 
-sub-word : tie.Need-sub-word
-sub-word c = search needs
-
-part-word-start : tie.Need-part-word-start
-part-word-start c = search needs
-
-part-word-end : tie.Need-part-word-end
-part-word-end c = search needs
-
-word-requires : tie.Need-word-requires
-word-requires c κs = search needs
-
-sub-word-2 : tie.Need-sub-word-2
-sub-word-2 c = search needs
-
-part-word-start-2 : tie.Need-part-word-start-2
-part-word-start-2 c = search needs
-
-part-word-end-2 : tie.Need-part-word-end-2
-part-word-end-2 c = search needs
-
-word-requires-2 : tie.Need-word-requires-2
-word-requires-2 c κs = search needs
-
 returns : tie.Need-returns
 unfolding numbersOf
 returns c =
@@ -40,12 +16,12 @@ pub numbers-spec : {M : Type 1} → statement M
 numbers-spec =
     tie.close
     (tie.spec
-    sub-word
-    part-word-start
-    part-word-end
-    word-requires
-    sub-word-2
-    part-word-start-2
-    part-word-end-2
-    word-requires-2
+    (λ c. search needs)
+    (λ c. search needs)
+    (λ c. search needs)
+    (λ c κs. search needs)
+    (λ c. search needs)
+    (λ c. search needs)
+    (λ c. search needs)
+    (λ c κs. search needs)
     returns)

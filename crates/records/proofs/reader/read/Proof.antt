@@ -27,19 +27,10 @@ module _ (s : List ℕ) where
 returns : tie.Need-returns
 returns c = other-length (c .before .before .args .s .now) (c .if1 .taken)
 
-shared-slice-read-if2 : tie.Need-shared-slice-read-if2
-shared-slice-read-if2 c = search needs
-
 returns-2 : tie.Need-returns-2
 returns-2 c =
     let whole = c .before .before in
     other-first (whole .before .before .args .s .now) (whole .if1 .left) (c .if2 .taken)
-
-shared-slice-read-lettered : tie.Need-shared-slice-read-lettered
-shared-slice-read-lettered c = search needs
-
-lettered-requires : tie.Need-lettered-requires
-lettered-requires c κs = search needs
 
 returns-3 : tie.Need-returns-3
 returns-3 c =
@@ -52,8 +43,8 @@ read-spec =
     tie.close
     (tie.spec
     returns
-    shared-slice-read-if2
+    (λ c. search needs)
     returns-2
-    shared-slice-read-lettered
-    lettered-requires
+    (λ c. search needs)
+    (λ c κs. search needs)
     returns-3)

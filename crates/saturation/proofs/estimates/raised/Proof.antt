@@ -12,9 +12,6 @@ use Rattle.elementary.proofs.Ranges.{power-squash}
 use borrow.Author.Needs.{needs}
 use Rattle.saturation.proofs.estimates.raised.Statement.{statement}
 use Rattle.saturation.proofs.estimates.raised.Tie as tie
-use Rattle.saturation.proofs.estimates.raised.Reads as reads
-use Rattle.saturation.proofs.estimates.raised.Lts as lts
-use Rattle.exponentials.proofs.exp.Reads as exp-reads
 
 zero : (x t : Float) → eq x (real 0) ≡ true → ofBits binary64 0 ≡ powerOf x t
 unfolding powerOf
@@ -27,9 +24,6 @@ other x t e = simp e
 returns : tie.Need-returns
 returns c = zero _ _ (simp lit-0 at (c .if1 .taken)) ∙ sym (power-squash _ _)
 
-exp-requires : tie.Need-exp-requires
-exp-requires c κs = search needs
-
 returns-2 : tie.Need-returns-2
 unfolding _⊗_
 returns-2 c =
@@ -41,4 +35,4 @@ returns-2 c =
     ∙ sym (power-squash _ _)
 
 pub raised-spec : {M : Type 1} → statement M
-raised-spec = tie.close (tie.spec returns exp-requires returns-2)
+raised-spec = tie.close (tie.spec returns (λ c κs. search needs) returns-2)

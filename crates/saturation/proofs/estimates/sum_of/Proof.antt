@@ -20,25 +20,10 @@ loop-holds : tie.Need-loop-holds Inv-loop μ-loop
 unfolding plusTerms
 loop-holds c = (omega arith, refl)
 
-add-at : tie.Need-add-at Inv-loop μ-loop
-add-at c = search needs
-
-mul-term : tie.Need-mul-term Inv-loop μ-loop
-mul-term c = search needs
-
-array-copy-out-term : tie.Need-array-copy-out-term Inv-loop μ-loop
-array-copy-out-term c = search needs
-
 term-value-requires : tie.Need-term-value-requires Inv-loop μ-loop
 term-value-requires c κs =
     let start = c .before .before .before in
     (start .pre .0 (start .args .from + c .before .before .loop .n) (omega arith), start .pre .1)
-
-add-n : tie.Need-add-n Inv-loop μ-loop
-add-n c = search needs
-
-loop-less : tie.Need-loop-less Inv-loop μ-loop
-loop-less c = search needs
 
 loop-again : tie.Need-loop-again Inv-loop μ-loop
 unfolding termAt
@@ -58,11 +43,11 @@ sum-of-spec =
     Inv-loop
     μ-loop
     loop-holds
-    add-at
-    mul-term
-    array-copy-out-term
+    (λ c. search needs)
+    (λ c. search needs)
+    (λ c. search needs)
     term-value-requires
-    add-n
-    loop-less
+    (λ c. search needs)
+    (λ c. search needs)
     loop-again
     returns)

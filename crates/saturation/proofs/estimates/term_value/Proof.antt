@@ -7,18 +7,6 @@ use Rattle.saturation.specs.Estimates.{termOf}
 use borrow.Author.Needs.{needs}
 use Rattle.saturation.proofs.estimates.term_value.Statement.{statement}
 use Rattle.saturation.proofs.estimates.term_value.Tie as tie
-use Rattle.saturation.proofs.estimates.term_value.Reads as reads
-use Rattle.saturation.proofs.estimates.term_value.Lts as lts
-use Rattle.saturation.proofs.estimates.raised.Reads as raised-reads
-
-enum-known-term : tie.Need-enum-known-term
-enum-known-term c = search needs
-
-enum-known-term-2 : tie.Need-enum-known-term-2
-enum-known-term-2 c = search needs
-
-raised-requires : tie.Need-raised-requires
-raised-requires c κs = search needs
 
 returns : tie.Need-returns
 unfolding termOf
@@ -38,4 +26,4 @@ returns-2 c =
 
 pub term-value-spec : {M : Type 1} → statement M
 term-value-spec =
-    tie.close (tie.spec enum-known-term enum-known-term-2 raised-requires returns returns-2)
+    tie.close (tie.spec (λ c. search needs) (λ c. search needs) (λ c κs. search needs) returns returns-2)

@@ -7,12 +7,6 @@ use Rattle.density.proofs.Outcomes.{crosses-at}
 use borrow.Author.Needs.{needs}
 use Rattle.density.proofs.searches.in_cell.step_in_cell.Statement.{statement}
 use Rattle.density.proofs.searches.in_cell.step_in_cell.Tie as tie
-use Rattle.density.proofs.searches.in_cell.step_in_cell.Reads as reads
-use Rattle.density.proofs.searches.in_cell.step_in_cell.Lts as lts
-use Rattle.density.proofs.searches.in_cell.halve.Reads as halve-reads
-
-enum-known-cell : tie.Need-enum-known-cell
-enum-known-cell c = search needs
 
 mul-lower : tie.Need-mul-lower
 mul-lower c =
@@ -34,9 +28,6 @@ halve-requires c κs =
     let start = c .before .before .before in
     (start .pre .0, cell-bracket _ _ _ (crosses-at _ _ _ _ (c .before .cell .given .1) (start .pre .1)))
 
-enum-known-cell-2 : tie.Need-enum-known-cell-2
-enum-known-cell-2 c = search needs
-
 returns : tie.Need-returns
 unfolding inCell
 returns c = c .halve .ensures ∙ ap (inCell _ _) (sym (c .before .before .cell .given .1))
@@ -49,11 +40,11 @@ pub step-in-cell-spec : {M : Type 1} → statement M
 step-in-cell-spec =
     tie.close
     (tie.spec
-    enum-known-cell
+    (λ c. search needs)
     mul-lower
     add-upper
     mul-upper
     halve-requires
-    enum-known-cell-2
+    (λ c. search needs)
     returns
     returns-2)

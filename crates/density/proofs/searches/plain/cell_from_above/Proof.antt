@@ -12,9 +12,6 @@ use Rattle.steps.proofs.Inside.{at-end}
 use Rattle.steps.proofs.Seen.{nan-seen, le-seen}
 use Rattle.density.proofs.searches.plain.cell_from_above.Statement.{statement}
 use Rattle.density.proofs.searches.plain.cell_from_above.Tie as tie
-use Rattle.density.proofs.searches.plain.cell_from_above.Reads as reads
-use Rattle.density.proofs.searches.plain.cell_from_above.Lts as lts
-use Rattle.steps.proofs.end_pressure.Reads as end-pressure-reads
 
 abbrev Inv-loop : tie.InvT-loop
 Inv-loop kept p c top j₀ j =
@@ -23,9 +20,6 @@ Inv-loop kept p c top j₀ j =
 
 abbrev μ-loop : tie.MeasureT-loop
 μ-loop kept p c top j₀ j = j
-
-end-pressure-requires : tie.Need-end-pressure-requires Inv-loop μ-loop
-end-pressure-requires c κs = search needs
 
 returns : tie.Need-returns Inv-loop μ-loop
 unfolding cellFromAbove
@@ -48,9 +42,6 @@ returns-3 c = sym (sym (c .before .loop .inv .1) ∙ down-end _ _ _ (c .if3 .tak
 
 sub-j : tie.Need-sub-j Inv-loop μ-loop
 sub-j c = omega arith
-
-end-pressure-requires-2 : tie.Need-end-pressure-requires-2 Inv-loop μ-loop
-end-pressure-requires-2 c κs = search needs
 
 returns-4 : tie.Need-returns-4 Inv-loop μ-loop
 returns-4 c =
@@ -80,13 +71,13 @@ cell-from-above-spec =
     (tie.spec
     Inv-loop
     μ-loop
-    end-pressure-requires
+    (λ c κs. search needs)
     returns
     returns-2
     loop-holds
     returns-3
     sub-j
-    end-pressure-requires-2
+    (λ c κs. search needs)
     returns-4
     loop-less
     loop-again

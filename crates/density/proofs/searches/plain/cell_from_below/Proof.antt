@@ -12,9 +12,6 @@ use Rattle.steps.proofs.Inside.{at-end}
 use Rattle.steps.proofs.Seen.{nan-seen, lt-seen}
 use Rattle.density.proofs.searches.plain.cell_from_below.Statement.{statement}
 use Rattle.density.proofs.searches.plain.cell_from_below.Tie as tie
-use Rattle.density.proofs.searches.plain.cell_from_below.Reads as reads
-use Rattle.density.proofs.searches.plain.cell_from_below.Lts as lts
-use Rattle.steps.proofs.end_pressure.Reads as end-pressure-reads
 
 abbrev Inv-loop : tie.InvT-loop
 Inv-loop kept p c j₀ j =
@@ -32,9 +29,6 @@ returns c = sym (sym (c .before .loop .inv .1) ∙ up-end _ _ _ _ (omega arith))
 
 add-next : tie.Need-add-next Inv-loop μ-loop
 add-next c = omega arith
-
-end-pressure-requires : tie.Need-end-pressure-requires Inv-loop μ-loop
-end-pressure-requires c κs = search needs
 
 returns-2 : tie.Need-returns-2 Inv-loop μ-loop
 returns-2 c =
@@ -67,7 +61,7 @@ cell-from-below-spec =
     loop-holds
     returns
     add-next
-    end-pressure-requires
+    (λ c κs. search needs)
     returns-2
     loop-less
     loop-again

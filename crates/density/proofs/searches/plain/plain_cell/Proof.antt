@@ -7,22 +7,9 @@ use Rattle.density.specs.Calls.{plainCellOf}
 use borrow.Author.Needs.{needs}
 use Rattle.density.proofs.searches.plain.plain_cell.Statement.{statement}
 use Rattle.density.proofs.searches.plain.plain_cell.Tie as tie
-use Rattle.density.proofs.searches.plain.plain_cell.Reads as reads
-use Rattle.density.proofs.searches.plain.plain_cell.Lts as lts
-use Rattle.density.proofs.searches.plain.cell_from_above.Reads as cell-from-above-reads
-use Rattle.density.proofs.searches.plain.cell_from_below.Reads as cell-from-below-reads
 
 enum-told : tie.Need-enum-told
 enum-told c = search needs
-
-cell-from-below-requires : tie.Need-cell-from-below-requires
-cell-from-below-requires c κs = search needs
-
-enum-told-2 : tie.Need-enum-told-2
-enum-told-2 c = search needs
-
-cell-from-above-requires : tie.Need-cell-from-above-requires
-cell-from-above-requires c κs = search needs
 
 returns : tie.Need-returns
 returns c =
@@ -41,8 +28,8 @@ plain-cell-spec =
     tie.close
     (tie.spec
     enum-told
-    cell-from-below-requires
-    enum-told-2
-    cell-from-above-requires
+    (λ c κs. search needs)
+    (λ c. search needs)
+    (λ c κs. search needs)
     returns
     returns-2)

@@ -8,22 +8,10 @@ use native.Mathlib.Omega.{arith}
 use borrow.Author.Needs.{needs}
 use Rattle.density.proofs.searches.quick.enclosing.Statement.{statement}
 use Rattle.density.proofs.searches.quick.enclosing.Tie as tie
-use Rattle.density.proofs.searches.quick.enclosing.Reads as reads
-use Rattle.density.proofs.searches.quick.enclosing.Lts as lts
-use Rattle.steps.proofs.end_pressure.Reads as end-pressure-reads
-
-end-pressure-requires : tie.Need-end-pressure-requires
-end-pressure-requires c κs = search needs
 
 returns : tie.Need-returns
 unfolding enclosing
 returns c = sym (simp (nan-seen _ _ true (at-end _ _ _ (omega arith) (c .before .end-pressure .ensures)) (c .if1 .taken)))
-
-add-next : tie.Need-add-next
-add-next c = search needs
-
-end-pressure-requires-2 : tie.Need-end-pressure-requires-2
-end-pressure-requires-2 c κs = search needs
 
 returns-2 : tie.Need-returns-2
 unfolding enclosing
@@ -56,10 +44,10 @@ pub enclosing-spec : {M : Type 1} → statement M
 enclosing-spec =
     tie.close
     (tie.spec
-    end-pressure-requires
+    (λ c κs. search needs)
     returns
-    add-next
-    end-pressure-requires-2
+    (λ c. search needs)
+    (λ c κs. search needs)
     returns-2
     returns-3
     returns-4

@@ -7,8 +7,6 @@ use Rattle.search.specs.Quick.{entriesOf, above, halvedPlaces}
 use Rattle.search.proofs.Turns.{places-down, places-up, places-end}
 use Rattle.density.proofs.searches.quick.halve_places.Statement.{statement}
 use Rattle.density.proofs.searches.quick.halve_places.Tie as tie
-use Rattle.density.proofs.searches.quick.halve_places.Reads as reads
-use Rattle.density.proofs.searches.quick.halve_places.Lts as lts
 
 abbrev Inv-loop : tie.InvT-loop
 Inv-loop list p c a₀ b₀ a b =

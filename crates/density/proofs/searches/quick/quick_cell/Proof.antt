@@ -7,19 +7,6 @@ use Rattle.search.proofs.Turns.{quick-turn}
 use borrow.Author.Needs.{needs}
 use Rattle.density.proofs.searches.quick.quick_cell.Statement.{statement}
 use Rattle.density.proofs.searches.quick.quick_cell.Tie as tie
-use Rattle.density.proofs.searches.quick.quick_cell.Reads as reads
-use Rattle.density.proofs.searches.quick.quick_cell.Lts as lts
-use Rattle.density.proofs.searches.quick.enclosing.Reads as enclosing-reads
-use Rattle.density.proofs.searches.quick.halve_places.Reads as halve-places-reads
-
-mul-if1 : tie.Need-mul-if1
-mul-if1 c = search needs
-
-shared-slice-read-if1 : tie.Need-shared-slice-read-if1
-shared-slice-read-if1 c = search needs
-
-halve-places-requires : tie.Need-halve-places-requires
-halve-places-requires c κs = search needs
 
 enclosing-requires : tie.Need-enclosing-requires
 enclosing-requires c κs =
@@ -39,9 +26,9 @@ pub quick-cell-spec : {M : Type 1} → statement M
 quick-cell-spec =
     tie.close
     (tie.spec
-    mul-if1
-    shared-slice-read-if1
-    halve-places-requires
+    (λ c. search needs)
+    (λ c. search needs)
+    (λ c κs. search needs)
     enclosing-requires
     returns
     returns-2)

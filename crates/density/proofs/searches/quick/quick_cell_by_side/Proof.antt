@@ -8,21 +8,9 @@ use Rattle.density.specs.Calls.{entriesBy}
 use borrow.Author.Needs.{needs}
 use Rattle.density.proofs.searches.quick.quick_cell_by_side.Statement.{statement}
 use Rattle.density.proofs.searches.quick.quick_cell_by_side.Tie as tie
-use Rattle.density.proofs.searches.quick.quick_cell_by_side.Reads as reads
-use Rattle.density.proofs.searches.quick.quick_cell_by_side.Lts as lts
-use Rattle.density.proofs.searches.quick.quick_cell.Reads as quick-cell-reads
 
 enum-told : tie.Need-enum-told
 enum-told c = search needs
-
-quick-cell-requires : tie.Need-quick-cell-requires
-quick-cell-requires c κs = search needs
-
-enum-told-2 : tie.Need-enum-told-2
-enum-told-2 c = search needs
-
-quick-cell-requires-2 : tie.Need-quick-cell-requires-2
-quick-cell-requires-2 c κs = search needs
 
 returns : tie.Need-returns
 returns c =
@@ -39,4 +27,4 @@ returns-2 c =
 pub quick-cell-by-side-spec : {M : Type 1} → statement M
 quick-cell-by-side-spec =
     tie.close
-    (tie.spec enum-told quick-cell-requires enum-told-2 quick-cell-requires-2 returns returns-2)
+    (tie.spec enum-told (λ c κs. search needs) (λ c. search needs) (λ c κs. search needs) returns returns-2)

@@ -1,0 +1,40 @@
+-- `asked` meets its contract, by what was read. Assumes nothing.
+use mathlib.Core.Path.{sym, _∙_, ap}
+use Rattle.questions.specs.Asked.{askedOf}
+use borrow.Author.Needs.{needs}
+use Rattle.questions.proofs.work.asked.Statement.{statement}
+use Rattle.questions.proofs.work.asked.Tie as tie
+
+enum-told : tie.Need-enum-told
+enum-told c = search needs
+
+returns : tie.Need-returns
+returns c =
+    let second = c .before in
+    let first = second .before in
+    c .asked-by .ensures ∙ simp (second .number2 .ensures, first .number .ensures) (sym (ap askedOf (first .before .before .marked .given .1)))
+
+returns-2 : tie.Need-returns-2
+returns-2 c = sym (ap askedOf (c .enum-told .given .1))
+
+returns-3 : tie.Need-returns-3
+returns-3 c = sym (ap askedOf (c .enum-told2 .given .1))
+
+returns-4 : tie.Need-returns-4
+returns-4 c = sym (ap askedOf (c .enum-told3 .given .1))
+
+pub asked-spec : {M : Type 1} → statement M
+asked-spec =
+    tie.close
+    (tie.spec
+    (λ c. search needs)
+    (λ c κs. search needs)
+    (λ c κs. search needs)
+    (λ c κs. search needs)
+    enum-told
+    (λ c. search needs)
+    (λ c. search needs)
+    returns
+    returns-2
+    returns-3
+    returns-4)

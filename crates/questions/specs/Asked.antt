@@ -1,0 +1,53 @@
+-- 01, "Marked records": what a record asks, and its answer.
+use mathlib.Core.List.{List}
+use Prim.Native.Nat.{ℕ}
+use lib.Ieee.{Float, binary64, ofBits}
+use Rattle.refusals.specs.declared.Refusal.{Refusal}
+use Rattle.refusals.specs.declared.Refusal.the-variants.{UnknownMark, CutShort}
+use Rattle.refusals.specs.declared.Answer.{Answer}
+use Rattle.fluids.specs.declared.Fluid.{Fluid}
+use Rattle.fluids.specs.declared.Fluid.the-variants.{R245ca}
+use Rattle.fluids.specs.Entries.{entryOf}
+use Rattle.properties.specs.Calls.{pressureOf}
+use Rattle.density.specs.declared.Side.{Side}
+use Rattle.density.specs.Calls.{plainOf}
+use Rattle.outcomes.specs.Codes.{foundAnswerOf}
+use Rattle.records.specs.declared.Kind.{Kind}
+use Rattle.records.specs.declared.Kind.the-variants.{Density, NoSide}
+use Rattle.records.specs.declared.Record.{Record}
+use Rattle.records.specs.declared.Record.the-variants.{Numbers, Unknown, Cut}
+use Rattle.records.specs.Record.{recordOf}
+use Rattle.questions.specs.declared.Question.{Question}
+use Rattle.questions.specs.declared.Question.the-variants.{State, Search}
+
+-- no side given is taken from below
+abbrev pub askedBy : Kind → Float → Float → Question
+askedBy Density T ρ = State T ρ
+askedBy Kind.FromBelow T P = Search T P Side.FromBelow
+askedBy Kind.FromAbove T P = Search T P Side.FromAbove
+askedBy NoSide T P = Search T P Side.FromBelow
+
+-- the numbers of the bits, every NaN pattern a NaN; or 1, 14, 15
+abbrev pub askedOf : Record → Question
+askedOf (Numbers kind x y) = askedBy kind (ofBits binary64 x) (ofBits binary64 y)
+askedOf Record.NoReading = Question.Refused Refusal.NoReading
+askedOf Unknown = Question.Refused UnknownMark
+askedOf Cut = Question.Refused CutShort
+
+unfoldable pub questionOf : List ℕ → Question
+questionOf s = askedOf (recordOf s)
+
+-- ---- the answer
+
+-- searches here use the fluid's own top
+unfoldable pub densityAt : Fluid → Float → Float → Side → Answer
+densityAt F T P side = foundAnswerOf (plainOf F T P (entryOf F .topCells) side)
+
+abbrev pub workOf : Fluid → Question → Answer
+workOf F (State T ρ) = pressureOf F T ρ
+workOf F (Search T P side) = densityAt F T P side
+workOf F (Question.Refused r) = Answer.Refused r
+
+-- a record's mark begins with T: it is of R-245ca
+unfoldable pub answerOf : List ℕ → Answer
+answerOf s = workOf R245ca (questionOf s)

@@ -1,0 +1,21 @@
+// 01, "Marked records, the program, the C call": what a record asks, its answer, and the answer put into an output.
+//
+// Units: K, mol/dm³, Pa.
+mod call;
+mod work;
+
+pub use call::answer_into;
+use density::Side;
+use refusals::Refusal;
+pub use work::answer;
+pub use work::asked;
+
+// What a record asks.
+pub enum Question {
+    // the pressure at T and ρ
+    State(f64, f64),
+    // the density at T and P, from a side
+    Search(f64, f64, Side),
+    // nothing: 15, 14 or 1
+    Refused(Refusal),
+}
