@@ -1,6 +1,6 @@
 -- The C call answers every record that it permits: where the reading, its two numbers and the room in the output are granted, the
 -- code is 0. So a record's code can only be 0, 1, 2, 3, 4, 5, 7, 14 or 15.
-use mathlib.Core.Path.{_≡_, refl, ap, subst}
+use mathlib.Core.Path.{_≡_, refl, ap, subst, sym}
 use mathlib.Core.Logic.{inl, inr}
 use mathlib.Core.List.{List, [], _∷_}
 use mathlib.Core.Bool.{true}
@@ -40,6 +40,7 @@ use Rattle.intervals.proofs.Fractions.{is-true}
 use Rattle.inputs.proofs.Passed.{top-permitted}
 use Rattle.bounds.proofs.NeverTwelve.{pressure-answered}
 use Rattle.bounds.proofs.Searches.{every-question-answered}
+use Rattle.refusals.proofs.Apart.{granted≢denied}
 use Rattle.refusals.proofs.InOrder.{denied-code, by-permit}
 
 -- ---- permitted numbers are those that the calls permit
@@ -57,7 +58,7 @@ work-answered F (State t ρ) ok = (_, pressure-answered F t ρ ok)
 work-answered F (Search t P side) ok =
     let (density, word, e) = every-question-answered F t P side (search-permitted F t P ok) in
     (density, unfold densityAt in ap foundAnswerOf e)
-work-answered F (Question.Refused r) ok = let z : _≡_ {A = ℕ} 0 1 = cc in absurd (omega arith)
+work-answered F (Question.Refused r) ok = absurd (granted≢denied (sym ok))
 
 -- ---- the refusals that a record's permit can deny with
 abbrev refusalCodes : List ℕ
@@ -100,7 +101,7 @@ room-listed (Denied r) room ok = ok
 -- the room is asked for after the inputs
 inputs-granted : (p : Permit) (room : ℕ) → testedOf p (leb 8 room) TooShort ≡ Granted → p ≡ Granted
 inputs-granted Granted room ok = refl
-inputs-granted (Denied r) room ok = let z : _≡_ {A = ℕ} 0 1 = cc in absurd (omega arith)
+inputs-granted (Denied r) room ok = ok
 
 -- ---- the call
 code-where-granted : (p : Permit) (a : Answer) → (p ≡ Granted → Answered a) → p ≡ Granted → answerCodeOf (permitted p a) ≡ 0

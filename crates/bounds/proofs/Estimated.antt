@@ -21,7 +21,7 @@ use Rattle.intervals.proofs.Fractions.{holds}
 use Rattle.refusals.proofs.InOrder.{never-denied}
 use Rattle.bounds.proofs.Permits.{never-12}
 use Rattle.ranges.proofs.Estimates.{estimates-finite}
-use Rattle.ranges.proofs.R245ca.{entry-estimate-ends, entry-estimates}
+use Rattle.ranges.proofs.Passes.{entry-estimate-ends, entry-estimates}
 
 module _ (F : Fluid) (t : Float) where
   saturation-granted : saturationPermit F t ≡ Granted → T (le (entryOf F .leastT) t) × T (le t (entryOf F .Tc))

@@ -11,7 +11,7 @@ use Rattle.values.specs.Values.{energyValue, enthalpyValue, isochoricValue}
 use Rattle.properties.specs.Calls.{workedDensity, pressureOf, energyOf, enthalpyOf, isochoricOf}
 use Rattle.inputs.specs.Inputs.{statePermit}
 use Rattle.ranges.proofs.Entry.{Finite, finite-in-range}
-use Rattle.ranges.proofs.R245ca.{entry-passes}
+use Rattle.ranges.proofs.Passes.{entry-passes}
 use Rattle.bounds.proofs.Permits.{never-12, answered, state-denied, state-granted, worked-in-range}
 
 module _ (F : Fluid) (t ρ : Float) where

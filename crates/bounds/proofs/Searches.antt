@@ -60,7 +60,7 @@ use Rattle.intervals.proofs.Fractions.{holds, is-true}
 use Rattle.ranges.proofs.Entry.{temperature-finite, finite-in-range}
 use Rattle.refusals.proofs.InOrder.{AllPassed, never-denied}
 use Rattle.refusals.proofs.Apart.{other-code}
-use Rattle.ranges.proofs.R245ca.{entry-passes, entry-rises}
+use Rattle.ranges.proofs.Passes.{entry-passes, entry-rises}
 use Rattle.search.proofs.AmongNumbers.{HasStep, below-found, above-found, above-refuses, above-refuses-exactly, quick-not-12}
 
 module _ (F : Fluid) where

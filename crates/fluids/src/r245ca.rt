@@ -1,4 +1,4 @@
-// R-245ca: 003, Table 2 and equations 1 to 8, as data. That each table is the definition's is proved in `entries`.
+// R-245ca: 003, Table 2 and equations 1 to 8, as data. That each table is the definition's is the promise of the function that hands it out.
 use crate::Constants;
 use crate::Estimate;
 use crate::Pair;
@@ -133,6 +133,12 @@ pub(crate) const PAIRS: [Pair; 3] = [
 ];
 
 // 003, equations 1 to 3. What stands after an estimate's last term is in no sum.
+pub(crate) const PRESSURE_COUNT: usize = 4;
+
+pub(crate) const LIQUID_COUNT: usize = 5;
+
+pub(crate) const VAPOUR_COUNT: usize = 5;
+
 pub(crate) const PRESSURE: [Estimate; 5] = [
     Estimate::Alone { n: -7.8757 },
     Estimate::Raised { n: 2.0426, t: 1.5 },

@@ -7,6 +7,7 @@ use lib.Ieee.{Float}
 use Rattle.refusals.specs.declared.Refusal.the-variants.{UnknownMark}
 use Rattle.refusals.specs.declared.Answer.{Answer}
 use Rattle.refusals.specs.declared.Answer.the-variants.{Refused}
+use Rattle.fluids.specs.declared.Fluid.{Fluid}
 use Rattle.probe_calls.specs.Calls.{lookUp, elementaryCalls}
 
 module _ (n m : ℕ) (a : Answer) (rows : List (ℕ × Answer)) where
@@ -22,5 +23,5 @@ pub none : (n : ℕ) → lookUp n [] ≡ Refused UnknownMark
 unfolding lookUp
 none n = refl
 
-pub at-numbers : (n : ℕ) (a x b y : Float) → a ≡ x → b ≡ y → lookUp n (elementaryCalls a b) ≡ lookUp n (elementaryCalls x y)
-at-numbers n a x b y p q = ap (λ (z : Float). lookUp n (elementaryCalls z b)) p ∙ ap (λ (z : Float). lookUp n (elementaryCalls x z)) q
+pub at-numbers : (F : Fluid) (n : ℕ) (a x b y : Float) → a ≡ x → b ≡ y → lookUp n (elementaryCalls F a b) ≡ lookUp n (elementaryCalls F x y)
+at-numbers F n a x b y p q = ap (λ (z : Float). lookUp n (elementaryCalls F z b)) p ∙ ap (λ (z : Float). lookUp n (elementaryCalls F x z)) q

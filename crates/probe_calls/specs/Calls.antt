@@ -8,7 +8,7 @@ use Rattle.refusals.specs.declared.Refusal.the-variants.{UnknownMark}
 use Rattle.refusals.specs.declared.Answer.{Answer}
 use Rattle.refusals.specs.declared.Answer.the-variants.{Refused}
 use Rattle.elementary.specs.Calls.{exponentialOf, logarithmOf, squareRootOf}
-use Rattle.fluids.specs.declared.Fluid.the-variants.{R245ca}
+use Rattle.fluids.specs.declared.Fluid.{Fluid}
 use Rattle.fluids.specs.Entries.{entryOf}
 use Rattle.properties.specs.Calls.{pressureOf, energyOf, enthalpyOf, isochoricOf, entropyOf, gibbsOf, helmholtzOf, isobaricOf, soundSpeedOf}
 use Rattle.saturation.specs.Calls.{saturationPressureOf, saturatedLiquidOf, saturatedVapourOf}
@@ -17,43 +17,43 @@ use Rattle.density.specs.declared.Side.the-variants.{FromBelow, FromAbove}
 use Rattle.density.specs.Calls.{plainOf}
 use Rattle.outcomes.specs.Codes.{foundAnswerOf}
 
--- the plain search over 1,664 cells
-unfoldable pub plainAnswer : Side → Float → Float → Answer
-plainAnswer side T P = foundAnswerOf (plainOf R245ca T P (entryOf R245ca .topCells) side)
+-- the plain search up to the fluid's own top
+unfoldable pub plainAnswer : Fluid → Side → Float → Float → Answer
+plainAnswer F side T P = foundAnswerOf (plainOf F T P (entryOf F .topCells) side)
 
 -- the calls by number, at the numbers x and y; a call of one number does not look at y
-abbrev pub searchCalls : Float → Float → List (ℕ × Answer)
-searchCalls x y =
-    (30, plainAnswer FromBelow x y)
-    ∷ (31, plainAnswer FromAbove x y)
+abbrev pub searchCalls : Fluid → Float → Float → List (ℕ × Answer)
+searchCalls F x y =
+    (30, plainAnswer F FromBelow x y)
+    ∷ (31, plainAnswer F FromAbove x y)
     ∷ []
 
-abbrev pub estimateCalls : Float → Float → List (ℕ × Answer)
-estimateCalls x y =
-    (20, saturationPressureOf R245ca x)
-    ∷ (21, saturatedLiquidOf R245ca x)
-    ∷ (22, saturatedVapourOf R245ca x)
-    ∷ searchCalls x y
+abbrev pub estimateCalls : Fluid → Float → Float → List (ℕ × Answer)
+estimateCalls F x y =
+    (20, saturationPressureOf F x)
+    ∷ (21, saturatedLiquidOf F x)
+    ∷ (22, saturatedVapourOf F x)
+    ∷ searchCalls F x y
 
-abbrev pub propertyCalls : Float → Float → List (ℕ × Answer)
-propertyCalls x y =
-    (10, pressureOf R245ca x y)
-    ∷ (11, energyOf R245ca x y)
-    ∷ (12, enthalpyOf R245ca x y)
-    ∷ (13, isochoricOf R245ca x y)
-    ∷ (14, entropyOf R245ca x y)
-    ∷ (15, gibbsOf R245ca x y)
-    ∷ (16, helmholtzOf R245ca x y)
-    ∷ (17, isobaricOf R245ca x y)
-    ∷ (18, soundSpeedOf R245ca x y)
-    ∷ estimateCalls x y
+abbrev pub propertyCalls : Fluid → Float → Float → List (ℕ × Answer)
+propertyCalls F x y =
+    (10, pressureOf F x y)
+    ∷ (11, energyOf F x y)
+    ∷ (12, enthalpyOf F x y)
+    ∷ (13, isochoricOf F x y)
+    ∷ (14, entropyOf F x y)
+    ∷ (15, gibbsOf F x y)
+    ∷ (16, helmholtzOf F x y)
+    ∷ (17, isobaricOf F x y)
+    ∷ (18, soundSpeedOf F x y)
+    ∷ estimateCalls F x y
 
-abbrev pub elementaryCalls : Float → Float → List (ℕ × Answer)
-elementaryCalls x y =
+abbrev pub elementaryCalls : Fluid → Float → Float → List (ℕ × Answer)
+elementaryCalls F x y =
     (1, exponentialOf x)
     ∷ (2, logarithmOf x)
     ∷ (3, squareRootOf x)
-    ∷ propertyCalls x y
+    ∷ propertyCalls F x y
 
 -- what the list has under the number n
 unfoldable pub lookUp : ℕ → List (ℕ × Answer) → Answer

@@ -21,11 +21,12 @@ use saturation::saturated_liquid;
 use saturation::saturated_vapour;
 use saturation::saturation_pressure;
 ghost use mathlib.Core.Path.{_≡_};
+ghost use Rattle.fluids.specs.declared.Fluid.the-variants.{R245ca};
 ghost use Rattle.probe_calls.specs.Calls.{plainAnswer, lookUp, elementaryCalls, propertyCalls, estimateCalls, searchCalls};
 
 // 1 to 3, elementary functions of x; and all that follow.
 pub fn answer_of_numbers(call: u64, x: f64, y: f64) -> Answer
-    ensures { λ r. ⌜ r ≡ lookUp call (elementaryCalls x y) ⌝ }
+    ensures { λ r. ⌜ r ≡ lookUp call (elementaryCalls R245ca x y) ⌝ }
 {
     if call == 1 {
         return exponential(x);
@@ -41,7 +42,7 @@ pub fn answer_of_numbers(call: u64, x: f64, y: f64) -> Answer
 
 // 10 to 18, properties at the temperature x and the density y.
 fn answer_from_10(call: u64, x: f64, y: f64) -> Answer
-    ensures { λ r. ⌜ r ≡ lookUp call (propertyCalls x y) ⌝ }
+    ensures { λ r. ⌜ r ≡ lookUp call (propertyCalls R245ca x y) ⌝ }
 {
     if call == 10 {
         return pressure(x, y);
@@ -75,7 +76,7 @@ fn answer_from_10(call: u64, x: f64, y: f64) -> Answer
 
 // 20 to 22, estimates at the temperature x.
 fn answer_from_20(call: u64, x: f64, y: f64) -> Answer
-    ensures { λ r. ⌜ r ≡ lookUp call (estimateCalls x y) ⌝ }
+    ensures { λ r. ⌜ r ≡ lookUp call (estimateCalls R245ca x y) ⌝ }
 {
     if call == 20 {
         return saturation_pressure(x);
@@ -91,7 +92,7 @@ fn answer_from_20(call: u64, x: f64, y: f64) -> Answer
 
 // 30 and 31, densities at the temperature x and the pressure y.
 fn answer_from_30(call: u64, x: f64, y: f64) -> Answer
-    ensures { λ r. ⌜ r ≡ lookUp call (searchCalls x y) ⌝ }
+    ensures { λ r. ⌜ r ≡ lookUp call (searchCalls R245ca x y) ⌝ }
 {
     if call == 30 {
         return plain_answer(x, y, Side::FromBelow);
@@ -104,7 +105,7 @@ fn answer_from_30(call: u64, x: f64, y: f64) -> Answer
 
 // The density alone, by the plain search up to the fluid's own top.
 fn plain_answer(t: f64, p: f64, side: Side) -> Answer
-    ensures { λ r. ⌜ r ≡ plainAnswer side t p ⌝ }
+    ensures { λ r. ⌜ r ≡ plainAnswer R245ca side t p ⌝ }
 {
     let numbers = fluids::single_numbers(Fluid::R245ca);
     found_answer(plain(t, p, numbers.top_cells, side))

@@ -21,7 +21,7 @@ abbrev pub calls : Float → Float → List (ℕ × Answer)
 calls x y =
     (32, quickAnswer FromBelow x y)
     ∷ (33, quickAnswer FromAbove x y)
-    ∷ elementaryCalls x y
+    ∷ elementaryCalls R245ca x y
 
 -- every NaN pattern is handed on as a NaN
 unfoldable pub answerTo : ℕ → ℕ → ℕ → Answer

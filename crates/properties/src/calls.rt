@@ -2,7 +2,6 @@
 use arithmetic::answer_from;
 use arithmetic::both_finite;
 use arithmetic::finite;
-use equation::Kept;
 use equation::State;
 use equation::keep;
 use equation::pressure_at;
@@ -25,7 +24,7 @@ use values::sound_speed_value;
 use values::stability_of;
 ghost use mathlib.Core.Path.{_≡_};
 ghost use Rattle.fluids.specs.declared.Fluid.the-variants.{R245ca};
-ghost use Rattle.equation.specs.Kept.{stateOf};
+ghost use Rattle.equation.specs.Kept.{stateAt};
 ghost use Rattle.properties.specs.Calls as Calls;
 
 // What is asked of a state.
@@ -111,20 +110,27 @@ fn stable_sound_speed(state: State) -> Answer
     }
 }
 
+// The state of a fluid at T and ρ.
+fn state_of(fluid: Fluid, t: f64, rho: f64) -> State
+    ensures { λ r. ⌜ r ≡ stateAt fluid t rho ⌝ }
+{
+    state_at(keep(fluid, t), rho)
+}
+
 // The property of a permitted state. The pressure is worked without the other five sums.
-fn worked(property: Property, kept: Kept, rho: f64) -> Answer
-    ensures { λ r. ⌜ r ≡ Calls.workedOf property (stateOf kept rho) ⌝ }
+fn worked(property: Property, fluid: Fluid, t: f64, rho: f64) -> Answer
+    ensures { λ r. ⌜ r ≡ Calls.workedOf property (stateAt fluid t rho) ⌝ }
 {
     match property {
-        Property::Pressure => answer_from(pressure_at(kept, rho)),
-        Property::Energy => answer_from(energy_value(state_at(kept, rho))),
-        Property::Enthalpy => answer_from(enthalpy_value(state_at(kept, rho))),
-        Property::IsochoricHeatCapacity => answer_from(isochoric_value(state_at(kept, rho))),
-        Property::Entropy => answer_from(entropy_value(state_at(kept, rho))),
-        Property::GibbsEnergy => answer_from(gibbs_value(state_at(kept, rho))),
-        Property::HelmholtzEnergy => answer_from(helmholtz_value(state_at(kept, rho))),
-        Property::IsobaricHeatCapacity => stable_isobaric(state_at(kept, rho)),
-        Property::SoundSpeed => stable_sound_speed(state_at(kept, rho)),
+        Property::Pressure => answer_from(pressure_at(keep(fluid, t), rho)),
+        Property::Energy => answer_from(energy_value(state_of(fluid, t, rho))),
+        Property::Enthalpy => answer_from(enthalpy_value(state_of(fluid, t, rho))),
+        Property::IsochoricHeatCapacity => answer_from(isochoric_value(state_of(fluid, t, rho))),
+        Property::Entropy => answer_from(entropy_value(state_of(fluid, t, rho))),
+        Property::GibbsEnergy => answer_from(gibbs_value(state_of(fluid, t, rho))),
+        Property::HelmholtzEnergy => answer_from(helmholtz_value(state_of(fluid, t, rho))),
+        Property::IsobaricHeatCapacity => stable_isobaric(state_of(fluid, t, rho)),
+        Property::SoundSpeed => stable_sound_speed(state_of(fluid, t, rho)),
     }
 }
 
@@ -134,7 +140,7 @@ fn answer_of(property: Property, fluid: Fluid, t: f64, rho: f64) -> Answer
 {
     let permit = inputs_of(property, fluid, t, rho);
     match permit {
-        Permit::Granted => worked(property, keep(fluid, t), worked_density(rho)),
+        Permit::Granted => worked(property, fluid, t, worked_density(rho)),
         Permit::Denied(r) => Answer::Refused(r),
     }
 }

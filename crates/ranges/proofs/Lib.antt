@@ -5,4 +5,5 @@ pub mod Top
 pub mod Estimates
 pub mod Opened
 pub mod R245ca
+pub mod Passes
 pub mod Refused

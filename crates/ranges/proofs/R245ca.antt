@@ -1,9 +1,8 @@
--- Every fluid passes the computed tests of an entry: no value in its range is anything but finite, and at its top the pressure is above
+-- R-245ca passes the computed tests of an entry: no value in its range is anything but finite, and at its top the pressure is above
 -- every permitted one.
 use lib.Dec.{T}
 use lib.Ieee.{ofInt, round}
 use Rattle.arithmetic.specs.Checked.{real}
-use Rattle.fluids.specs.declared.Fluid.{Fluid}
 use Rattle.fluids.specs.declared.Fluid.the-variants.{R245ca}
 use Rattle.fluids.specs.R245ca.{r245ca}
 use Rattle.fluids.specs.Entries.{entryOf}
@@ -12,7 +11,7 @@ use Rattle.ranges.proofs.Entry.{passes}
 use Rattle.ranges.proofs.Estimates.{estimatesKnown, estimateEnds}
 use Rattle.ranges.proofs.Top.{Rises, slice, slice-rises, joined}
 
-r245ca-passes : T (passes r245ca)
+pub r245ca-passes : T (passes r245ca)
 unfolding entryOpened
 r245ca-passes = tt
 
@@ -35,27 +34,10 @@ r245ca-rises =
     (slice-rises R245ca (real 345) (real 450) (from-283-to-450 .1)))))
 
 -- the saturation estimates
-r245ca-estimate-ends : T (estimateEnds r245ca)
+pub r245ca-estimate-ends : T (estimateEnds r245ca)
 unfolding entryOpened
 r245ca-estimate-ends = tt
 
-r245ca-estimates : T (estimatesKnown r245ca)
+pub r245ca-estimates : T (estimatesKnown r245ca)
 unfolding entryOpened
 r245ca-estimates = tt
-
--- ---- every fluid's entry passes
-pub entry-passes : (F : Fluid) → T (passes (entryOf F))
-unfolding entryOf
-entry-passes R245ca = r245ca-passes
-
-pub entry-rises : (F : Fluid) → Rises F (entryOf F .leastT) (entryOf F .greatestT)
-unfolding entryOf
-entry-rises R245ca = r245ca-rises
-
-pub entry-estimate-ends : (F : Fluid) → T (estimateEnds (entryOf F))
-unfolding entryOf
-entry-estimate-ends R245ca = r245ca-estimate-ends
-
-pub entry-estimates : (F : Fluid) → T (estimatesKnown (entryOf F))
-unfolding entryOf
-entry-estimates R245ca = r245ca-estimates

@@ -44,7 +44,7 @@ returns-3 c =
     let at33 = c .before in
     let second = at33 .before .before in
     c .answer-of-numbers .ensures
-    ∙ at-numbers _ _ _ _ _ (second .before .number .ensures) (second .number2 .ensures)
+    ∙ at-numbers R245ca _ _ _ _ _ (second .before .number .ensures) (second .number2 .ensures)
     ∙ sym (passed-over _ _ _ _ (at33 .before .if1 .left) ∙ passed-over _ _ _ _ (at33 .if2 .left))
 
 pub answer-over-spec : {M : Type 1} → statement M

@@ -1,4 +1,4 @@
--- `end_pressure` meets its contract: an end is a step, and inside 2048 cells where j is at most 2048. Assumes nothing.
+-- `end_pressure` meets its contract: an end is a step, and inside the most cells where j is at most so many. Assumes nothing.
 use mathlib.Core.Path.{sym, _∙_}
 use native.Mathlib.Omega.{arith}
 use borrow.Author.Needs.{needs}

@@ -1,4 +1,4 @@
--- `step_density` meets its contract: up to 2048 cells k fits a binary64, and the literal is 2⁻³⁰. Assumes nothing.
+-- `step_density` meets its contract: up to the most cells k fits a binary64, and the literal is 2⁻³⁰. Assumes nothing.
 use mathlib.Core.Path.{sym, _∙_, ap}
 use native.Mathlib.Omega.{arith}
 use lib.Dec.{le→leb}

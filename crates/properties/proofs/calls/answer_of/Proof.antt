@@ -4,8 +4,7 @@ use mathlib.Core.Path.{sym, _∙_, ap}
 use borrow.Author.Needs.{needs}
 use lib.Ieee.{Float}
 use Rattle.refusals.proofs.Needed.{permitted-granted, permitted-denied}
-use Rattle.equation.specs.declared.kept.Kept.{Kept}
-use Rattle.equation.specs.Kept.{keptOf, stateOf}
+use Rattle.equation.specs.Kept.{stateAt}
 use Rattle.properties.specs.Calls.{workedOf}
 use Rattle.properties.proofs.calls.answer_of.Statement.{statement}
 use Rattle.properties.proofs.calls.answer_of.Tie as tie
@@ -16,13 +15,11 @@ enum-told c = search needs
 returns : tie.Need-returns
 returns c =
     let dense = c .before in
-    let kept = dense .before in
-    let told = kept .before in
+    let told = dense .before in
     let permit = told .before .before in
     let a = permit .before .args in
     c .worked .ensures
-    ∙ ap (λ (k : Kept). workedOf (a .property) (stateOf k (dense .worked-density .result))) (kept .keep .ensures)
-    ∙ ap (λ (ρ : Float). workedOf (a .property) (stateOf (keptOf (a .fluid) (a .t)) ρ)) (dense .worked-density .ensures)
+    ∙ ap (λ (ρ : Float). workedOf (a .property) (stateAt (a .fluid) (a .t) ρ)) (dense .worked-density .ensures)
     ∙ sym (permitted-granted _ _ (sym (permit .inputs-of .ensures) ∙ told .enum-told .given .1))
 
 returns-2 : tie.Need-returns-2
@@ -34,7 +31,6 @@ answer-of-spec =
     (tie.spec
     (λ c κs. search needs)
     enum-told
-    (λ c κs. search needs)
     (λ c κs. search needs)
     (λ c κs. search needs)
     (λ c. search needs)

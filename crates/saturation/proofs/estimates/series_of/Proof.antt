@@ -1,10 +1,11 @@
 -- `series_of` meets its contract, curve by curve: what is summed of the code's table is the sum of the entry's terms. Assumes nothing.
-use mathlib.Core.Path.{sym, _∙_}
+use mathlib.Core.Path.{sym, _∙_, ap}
 use native.Mathlib.Omega.{arith}
 use borrow.Author.Needs.{needs}
+use Rattle.arithmetic.specs.Checked.{squash}
 use Rattle.arithmetic.proofs.Literals.{lit-1, squash-1}
 use Rattle.saturation.specs.Estimates.{seriesOf}
-use Rattle.saturation.proofs.Terms.{counted, finite-table, first-summed, all-summed, summed-as}
+use Rattle.saturation.proofs.Terms.{counted, finite-table, first-summed, all-summed, summed-as, begun-with}
 use Rattle.saturation.proofs.estimates.series_of.Statement.{statement}
 use Rattle.saturation.proofs.estimates.series_of.Tie as tie
 
@@ -45,8 +46,9 @@ unfolding seriesOf
 returns-2 c =
     let terms = c .before .before .before .before in
     let a = terms .before .args in
-    all-summed (a .fluid) (a .curve) _ _ _ _ _ (c .sum-of .ensures) (terms .estimate-terms .ensures) (c .before .before .before .estimate-count .ensures)
-    ∙ rw (lit-1, squash-1) (sym (summed-as (a .fluid) (a .curve) _ _ (c .before .enum-told2 .given .1)))
+    begun-with _ _ _ _ _ _ _ (ap squash lit-1 ∙ squash-1)
+    (all-summed (a .fluid) (a .curve) _ _ _ _ _ (c .sum-of .ensures) (terms .estimate-terms .ensures) (c .before .before .before .estimate-count .ensures))
+    ∙ sym (summed-as (a .fluid) (a .curve) _ _ (c .before .enum-told2 .given .1))
 
 returns-3 : tie.Need-returns-3
 unfolding seriesOf
