@@ -6,6 +6,7 @@ mod searches;
 mod state;
 
 pub use calls::plain;
+pub use calls::plain_of;
 pub use calls::quick;
 use refusals::Refusal;
 

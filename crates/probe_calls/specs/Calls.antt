@@ -9,23 +9,16 @@ use Rattle.refusals.specs.declared.Answer.{Answer}
 use Rattle.refusals.specs.declared.Answer.the-variants.{Refused}
 use Rattle.elementary.specs.Calls.{exponentialOf, logarithmOf, squareRootOf}
 use Rattle.fluids.specs.declared.Fluid.{Fluid}
-use Rattle.fluids.specs.Entries.{entryOf}
 use Rattle.properties.specs.Calls.{pressureOf, energyOf, enthalpyOf, isochoricOf, entropyOf, gibbsOf, helmholtzOf, isobaricOf, soundSpeedOf}
 use Rattle.saturation.specs.Calls.{saturationPressureOf, saturatedLiquidOf, saturatedVapourOf}
-use Rattle.density.specs.declared.Side.{Side}
 use Rattle.density.specs.declared.Side.the-variants.{FromBelow, FromAbove}
-use Rattle.density.specs.Calls.{plainOf}
-use Rattle.outcomes.specs.Codes.{foundAnswerOf}
-
--- the plain search up to the fluid's own top
-unfoldable pub plainAnswer : Fluid → Side → Float → Float → Answer
-plainAnswer F side T P = foundAnswerOf (plainOf F T P (entryOf F .topCells) side)
+use Rattle.questions.specs.Asked.{densityAt}
 
 -- the calls by number, at the numbers x and y; a call of one number does not look at y
 abbrev pub searchCalls : Fluid → Float → Float → List (ℕ × Answer)
 searchCalls F x y =
-    (30, plainAnswer F FromBelow x y)
-    ∷ (31, plainAnswer F FromAbove x y)
+    (30, densityAt F x y FromBelow)
+    ∷ (31, densityAt F x y FromAbove)
     ∷ []
 
 abbrev pub estimateCalls : Fluid → Float → Float → List (ℕ × Answer)

@@ -1,11 +1,9 @@
 // The probe's calls of numbers alone, group after group: who has no call of the number hands it on to the next.
 use density::Side;
-use density::plain;
 use elementary::exponential;
 use elementary::logarithm;
 use elementary::square_root;
 use fluids::Fluid;
-use outcomes::found_answer;
 use properties::energy;
 use properties::enthalpy;
 use properties::entropy;
@@ -15,6 +13,7 @@ use properties::isobaric_heat_capacity;
 use properties::isochoric_heat_capacity;
 use properties::pressure;
 use properties::sound_speed;
+use questions::density_at;
 use refusals::Answer;
 use refusals::Refusal;
 use saturation::saturated_liquid;
@@ -22,7 +21,7 @@ use saturation::saturated_vapour;
 use saturation::saturation_pressure;
 ghost use mathlib.Core.Path.{_≡_};
 ghost use Rattle.fluids.specs.declared.Fluid.the-variants.{R245ca};
-ghost use Rattle.probe_calls.specs.Calls.{plainAnswer, lookUp, elementaryCalls, propertyCalls, estimateCalls, searchCalls};
+ghost use Rattle.probe_calls.specs.Calls.{lookUp, elementaryCalls, propertyCalls, estimateCalls, searchCalls};
 
 // 1 to 3, elementary functions of x; and all that follow.
 pub fn answer_of_numbers(call: u64, x: f64, y: f64) -> Answer
@@ -95,18 +94,10 @@ fn answer_from_30(call: u64, x: f64, y: f64) -> Answer
     ensures { λ r. ⌜ r ≡ lookUp call (searchCalls R245ca x y) ⌝ }
 {
     if call == 30 {
-        return plain_answer(x, y, Side::FromBelow);
+        return density_at(Fluid::R245ca, x, y, Side::FromBelow);
     }
     if call == 31 {
-        return plain_answer(x, y, Side::FromAbove);
+        return density_at(Fluid::R245ca, x, y, Side::FromAbove);
     }
     Answer::Refused(Refusal::UnknownMark)
-}
-
-// The density alone, by the plain search up to the fluid's own top.
-fn plain_answer(t: f64, p: f64, side: Side) -> Answer
-    ensures { λ r. ⌜ r ≡ plainAnswer R245ca side t p ⌝ }
-{
-    let numbers = fluids::single_numbers(Fluid::R245ca);
-    found_answer(plain(t, p, numbers.top_cells, side))
 }

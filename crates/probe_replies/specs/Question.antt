@@ -3,7 +3,8 @@
 use mathlib.Core.List.{List, _∷_}
 use Prim.Native.Nat.{ℕ}
 use lib.Ieee.{Float, binary64, ofBits}
-use Rattle.fluids.specs.declared.Fluid.the-variants.{R245ca}
+use Rattle.fluids.specs.declared.Fluid.{Fluid}
+use Rattle.fluids.specs.Entries.{entryOf}
 use Rattle.refusals.specs.declared.Answer.{Answer}
 use Rattle.density.specs.declared.Side.{Side}
 use Rattle.density.specs.declared.Side.the-variants.{FromBelow, FromAbove}
@@ -12,17 +13,19 @@ use Rattle.density.specs.Serving.{greatestAt, leastAt}
 use Rattle.outcomes.specs.Codes.{foundAnswerOf}
 use Rattle.probe_calls.specs.Calls.{elementaryCalls, lookUp}
 
--- the quick search over the lists that a preparation of 1,664 cells at T leaves
-unfoldable pub quickAnswer : Side → Float → Float → Answer
-quickAnswer side T P = foundAnswerOf (quickOf R245ca T P 1664 side (greatestAt R245ca T 1664) (leastAt R245ca T 1664))
+-- the quick search up to the fluid's own top, over the lists that a preparation at T leaves
+unfoldable pub quickAnswer : Fluid → Side → Float → Float → Answer
+quickAnswer F side T P =
+    let c = entryOf F .topCells in
+    foundAnswerOf (quickOf F T P c side (greatestAt F T c) (leastAt F T c))
 
 -- those over prepared lists, then those of numbers alone
-abbrev pub calls : Float → Float → List (ℕ × Answer)
-calls x y =
-    (32, quickAnswer FromBelow x y)
-    ∷ (33, quickAnswer FromAbove x y)
-    ∷ elementaryCalls R245ca x y
+abbrev pub calls : Fluid → Float → Float → List (ℕ × Answer)
+calls F x y =
+    (32, quickAnswer F FromBelow x y)
+    ∷ (33, quickAnswer F FromAbove x y)
+    ∷ elementaryCalls F x y
 
 -- every NaN pattern is handed on as a NaN
-unfoldable pub answerTo : ℕ → ℕ → ℕ → Answer
-answerTo call first second = lookUp call (calls (ofBits binary64 first) (ofBits binary64 second))
+unfoldable pub answerTo : Fluid → ℕ → ℕ → ℕ → Answer
+answerTo F call first second = lookUp call (calls F (ofBits binary64 first) (ofBits binary64 second))

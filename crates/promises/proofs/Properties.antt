@@ -19,6 +19,8 @@ use Rattle.properties.proofs.isobaric_heat_capacity.Kinds as isobaric-heat-capa
 use Rattle.properties.proofs.isobaric_heat_capacity.Reads as isobaric-heat-capacity-reads
 use Rattle.properties.proofs.sound_speed.Kinds as sound-speed-kinds
 use Rattle.properties.proofs.sound_speed.Reads as sound-speed-reads
+use Rattle.properties.proofs.answer_of.Kinds as answer-of-kinds
+use Rattle.properties.proofs.answer_of.Reads as answer-of-reads
 
 pub pressure-one : OneResult _ pressure-kinds.ps pressure-kinds.r pressure-reads.Learnt
 pressure-one κs a x y e f p q = p ∙ sym q
@@ -46,3 +48,6 @@ isobaric-heat-capacity-one κs a x y e f p q = p ∙ sym q
 
 pub sound-speed-one : OneResult _ sound-speed-kinds.ps sound-speed-kinds.r sound-speed-reads.Learnt
 sound-speed-one κs a x y e f p q = p ∙ sym q
+
+pub answer-of-one : OneResult _ answer-of-kinds.ps answer-of-kinds.r answer-of-reads.Learnt
+answer-of-one κs a x y e f p q = p ∙ sym q

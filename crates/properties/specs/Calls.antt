@@ -11,8 +11,8 @@ use Rattle.arithmetic.specs.Checked.{real}
 use Rattle.arithmetic.specs.Answered.{answerFrom}
 use Rattle.fluids.specs.declared.Fluid.{Fluid}
 use Rattle.inputs.specs.Inputs.{statePermit, potentialPermit}
-use Rattle.properties.specs.declared.calls.Property.{Property}
-use Rattle.properties.specs.declared.calls.Property.the-variants.{Pressure, Energy, Enthalpy, IsochoricHeatCapacity, Entropy, GibbsEnergy, HelmholtzEnergy, IsobaricHeatCapacity, SoundSpeed}
+use Rattle.properties.specs.declared.Property.{Property}
+use Rattle.properties.specs.declared.Property.the-variants.{Pressure, Energy, Enthalpy, IsochoricHeatCapacity, Entropy, GibbsEnergy, HelmholtzEnergy, IsobaricHeatCapacity, SoundSpeed}
 use Rattle.equation.specs.declared.state.State.{State}
 use Rattle.equation.specs.Kept.{stateAt, pressureValue}
 use Rattle.values.specs.Values.{«V», K, Q, energyValue, enthalpyValue, isochoricValue, entropyValue, gibbsValue, helmholtzValue, isobaricValue, soundSpeedValue}

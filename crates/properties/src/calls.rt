@@ -1,4 +1,5 @@
 // The nine properties as calls on R-245ca: a number, or a numbered refusal. Units: K, mol/dm³, Pa, J/mol, J/(mol K), m/s.
+use crate::Property;
 use arithmetic::answer_from;
 use arithmetic::both_finite;
 use arithmetic::finite;
@@ -26,19 +27,6 @@ ghost use mathlib.Core.Path.{_≡_};
 ghost use Rattle.fluids.specs.declared.Fluid.the-variants.{R245ca};
 ghost use Rattle.equation.specs.Kept.{stateAt};
 ghost use Rattle.properties.specs.Calls as Calls;
-
-// What is asked of a state.
-enum Property {
-    Pressure,
-    Energy,
-    Enthalpy,
-    IsochoricHeatCapacity,
-    Entropy,
-    GibbsEnergy,
-    HelmholtzEnergy,
-    IsobaricHeatCapacity,
-    SoundSpeed,
-}
 
 // 12 where V, K or Q is not finite, then 11.
 fn stability_permit(stability: Stability) -> Permit
@@ -134,8 +122,9 @@ fn worked(property: Property, fluid: Fluid, t: f64, rho: f64) -> Answer
     }
 }
 
-// The property of a fluid at T and ρ, or the first refusal.
-fn answer_of(property: Property, fluid: Fluid, t: f64, rho: f64) -> Answer
+// The property of a fluid at T and ρ, or the first refusal: 2, 3, 4, 10 where the formula has ln δ, then 12 and 11 as the work meets
+// them.
+pub fn answer_of(property: Property, fluid: Fluid, t: f64, rho: f64) -> Answer
     ensures { λ r. ⌜ r ≡ Calls.callOf property fluid t rho ⌝ }
 {
     let permit = inputs_of(property, fluid, t, rho);

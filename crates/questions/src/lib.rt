@@ -9,6 +9,7 @@ use density::Side;
 use refusals::Refusal;
 pub use work::answer;
 pub use work::asked;
+pub use work::density_at;
 
 // What a record asks.
 pub enum Question {

@@ -1,10 +1,11 @@
 // What a record asks, and its answer.
 use crate::Question;
 use density::Side;
-use density::plain;
+use density::plain_of;
 use fluids::Fluid;
 use outcomes::found_answer;
-use properties::pressure;
+use properties::Property;
+use properties::answer_of;
 use records::Kind;
 use records::Record;
 use records::read;
@@ -12,7 +13,6 @@ use refusals::Answer;
 use refusals::Refusal;
 use words::number;
 ghost use mathlib.Core.Path.{_≡_};
-ghost use Rattle.fluids.specs.declared.Fluid.the-variants.{R245ca};
 ghost use Rattle.questions.specs.Asked.{askedBy, askedOf, densityAt, workOf, answerOf};
 
 // What two numbers of a kind ask; no side given is taken from below.
@@ -39,29 +39,30 @@ pub fn asked(marked: Record) -> Question
     }
 }
 
-// The density by the plain search up to the fluid's own top.
-fn density_at(t: f64, p: f64, side: Side) -> Answer
-    ensures { λ r. ⌜ r ≡ densityAt R245ca t p side ⌝ }
+// The density of a fluid by the plain search up to its own top, alone; or 2, 3, 5, then 8, 9, 12.
+// 8, 9 and 12 never occur (docs/NO-ANSWER.md).
+pub fn density_at(fluid: Fluid, t: f64, p: f64, side: Side) -> Answer
+    ensures { λ r. ⌜ r ≡ densityAt fluid t p side ⌝ }
 {
-    let numbers = fluids::single_numbers(Fluid::R245ca);
-    found_answer(plain(t, p, numbers.top_cells, side))
+    let numbers = fluids::single_numbers(fluid);
+    found_answer(plain_of(fluid, t, p, numbers.top_cells, side))
 }
 
-// The answer to what a record asks.
-pub(crate) fn worked(question: Question) -> Answer
-    ensures { λ r. ⌜ r ≡ workOf R245ca question ⌝ }
+// The answer to what a record of a fluid asks.
+pub(crate) fn worked(fluid: Fluid, question: Question) -> Answer
+    ensures { λ r. ⌜ r ≡ workOf fluid question ⌝ }
 {
     match question {
-        Question::State(t, rho) => pressure(t, rho),
-        Question::Search(t, p, side) => density_at(t, p, side),
+        Question::State(t, rho) => answer_of(Property::Pressure, fluid, t, rho),
+        Question::Search(t, p, side) => density_at(fluid, t, p, side),
         Question::Refused(r) => Answer::Refused(r),
     }
 }
 
-// The answer to a record: the pressure in Pa or the density in mol/dm³; or 15, 14, 1, 2, 3, 4, 5, then 8, 9, 12.
-// 8, 9 and 12 never occur (docs/NO-ANSWER.md).
+// The answer to a record, which is of R-245ca by its mark: the pressure in Pa or the density in mol/dm³; or 15, 14, 1, 2, 3, 4, 5, then
+// 8, 9, 12. 8, 9 and 12 never occur (docs/NO-ANSWER.md).
 pub fn answer(s: &[u8]) -> Answer
     ensures { λ r. ⌜ r ≡ answerOf (now (s .entry)) ⌝ }
 {
-    worked(asked(read(s)))
+    worked(Fluid::R245ca, asked(read(s)))
 }

@@ -7,7 +7,7 @@ use Rattle.probe_replies.proofs.answer_fresh.Tie as tie
 prepare-for-requires : tie.Need-prepare-for-requires
 prepare-for-requires c κs =
     let start = c .before .before .before .before in
-    any-serve-none _ _ (start .pre .0) (start .pre .1)
+    any-serve-none _ _ _ (start .pre)
 
 returns : tie.Need-returns
 returns c = search needs

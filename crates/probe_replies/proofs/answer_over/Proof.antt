@@ -1,7 +1,6 @@
 -- `answer_over` meets its contract: its tests are those of `lookUp`, row by row, and the lists serve what the quick search is asked.
 -- Assumes nothing.
 use mathlib.Core.Path.{_∙_, sym}
-use Rattle.fluids.specs.declared.Fluid.the-variants.{R245ca}
 use Rattle.density.specs.declared.Side.the-variants.{FromBelow, FromAbove}
 use Rattle.probe_replies.specs.Question.{answerTo}
 use Rattle.probe_calls.proofs.Rows.{found, passed-over, at-numbers}
@@ -14,20 +13,20 @@ use Rattle.probe_replies.proofs.answer_over.Tie as tie
 quick-answer-requires : tie.Need-quick-answer-requires
 quick-answer-requires c κs =
     let first = c .before .before in
-    serves-at R245ca 1664 _ _ _ _ (first .number .ensures) (first .before .before .before .pre (from-below-is-over _ (c .if1 .taken)))
+    serves-at _ _ _ _ _ _ (first .number .ensures) (first .before .before .before .pre (from-below-is-over _ (c .if1 .taken)) .1)
 
 returns : tie.Need-returns
 unfolding answerTo
 returns c =
     let second = c .before .before in
     c .quick-answer .ensures
-    ∙ quick-at FromBelow _ _ _ _ (second .before .number .ensures) (second .number2 .ensures)
+    ∙ quick-at _ FromBelow _ _ _ _ (second .before .number .ensures) (second .number2 .ensures)
     ∙ sym (found _ _ _ _ (c .before .if1 .taken))
 
 quick-answer-requires-2 : tie.Need-quick-answer-requires-2
 quick-answer-requires-2 c κs =
     let first = c .before .before .before in
-    serves-at R245ca 1664 _ _ _ _ (first .number .ensures) (first .before .before .before .pre (from-above-is-over _ (c .before .if1 .left) (c .if2 .taken)))
+    serves-at _ _ _ _ _ _ (first .number .ensures) (first .before .before .before .pre (from-above-is-over _ (c .before .if1 .left) (c .if2 .taken)) .1)
 
 returns-2 : tie.Need-returns-2
 unfolding answerTo
@@ -35,7 +34,7 @@ returns-2 c =
     let at33 = c .before in
     let second = at33 .before .before in
     c .quick-answer2 .ensures
-    ∙ quick-at FromAbove _ _ _ _ (second .before .number .ensures) (second .number2 .ensures)
+    ∙ quick-at _ FromAbove _ _ _ _ (second .before .number .ensures) (second .number2 .ensures)
     ∙ sym (passed-over _ _ _ _ (at33 .before .if1 .left) ∙ found _ _ _ _ (at33 .if2 .taken))
 
 returns-3 : tie.Need-returns-3
@@ -44,7 +43,7 @@ returns-3 c =
     let at33 = c .before in
     let second = at33 .before .before in
     c .answer-of-numbers .ensures
-    ∙ at-numbers R245ca _ _ _ _ _ (second .before .number .ensures) (second .number2 .ensures)
+    ∙ at-numbers _ _ _ _ _ _ (second .before .number .ensures) (second .number2 .ensures)
     ∙ sym (passed-over _ _ _ _ (at33 .before .if1 .left) ∙ passed-over _ _ _ _ (at33 .if2 .left))
 
 pub answer-over-spec : {M : Type 1} → statement M

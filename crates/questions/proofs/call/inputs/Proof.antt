@@ -1,19 +1,17 @@
 -- `inputs` meets its contract: by what the record asks. Assumes nothing.
-use mathlib.Core.Path.{sym, _∙_, ap}
+use mathlib.Core.Path.{refl}
 use borrow.Author.Needs.{needs}
-use Rattle.fluids.specs.declared.Fluid.the-variants.{R245ca}
-use Rattle.questions.specs.Call.{inputsOf}
 use Rattle.questions.proofs.call.inputs.Statement.{statement}
 use Rattle.questions.proofs.call.inputs.Tie as tie
 
 returns : tie.Need-returns
-returns c = c .state-inputs .ensures ∙ sym (ap (inputsOf R245ca) (c .before .before .question .given .1))
+returns c = rw (c .before .before .question .given .1) (c .state-inputs .ensures)
 
 returns-2 : tie.Need-returns-2
-returns-2 c = c .asked-inputs .ensures ∙ sym (ap (inputsOf R245ca) (c .before .before .question2 .given .1))
+returns-2 c = rw (c .before .before .question2 .given .1) (c .asked-inputs .ensures)
 
 returns-3 : tie.Need-returns-3
-returns-3 c = sym (ap (inputsOf R245ca) (c .before .question3 .given .1))
+returns-3 c = rw (c .before .question3 .given .1) refl
 
 pub inputs-spec : {M : Type 1} → statement M
 inputs-spec =

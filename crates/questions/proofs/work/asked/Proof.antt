@@ -1,5 +1,5 @@
 -- `asked` meets its contract, by what was read. Assumes nothing.
-use mathlib.Core.Path.{sym, _∙_, ap}
+use mathlib.Core.Path.{refl, sym, _∙_, ap}
 use Rattle.questions.specs.Asked.{askedOf}
 use borrow.Author.Needs.{needs}
 use Rattle.questions.proofs.work.asked.Statement.{statement}
@@ -15,13 +15,13 @@ returns c =
     c .asked-by .ensures ∙ simp (second .number2 .ensures, first .number .ensures) (sym (ap askedOf (first .before .before .marked .given .1)))
 
 returns-2 : tie.Need-returns-2
-returns-2 c = sym (ap askedOf (c .enum-told .given .1))
+returns-2 c = rw (c .enum-told .given .1) refl
 
 returns-3 : tie.Need-returns-3
-returns-3 c = sym (ap askedOf (c .enum-told2 .given .1))
+returns-3 c = rw (c .enum-told2 .given .1) refl
 
 returns-4 : tie.Need-returns-4
-returns-4 c = sym (ap askedOf (c .enum-told3 .given .1))
+returns-4 c = rw (c .enum-told3 .given .1) refl
 
 pub asked-spec : {M : Type 1} → statement M
 asked-spec =
