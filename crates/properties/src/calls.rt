@@ -3,12 +3,12 @@ use arithmetic::answer_from;
 use arithmetic::both_finite;
 use arithmetic::finite;
 use equation::State;
-use equation::keep;
 use equation::pressure_at;
 use equation::state_at;
 use fluids::Fluid;
 use inputs::potential_inputs;
 use inputs::state_inputs;
+use kept::keep;
 use refusals::Answer;
 use refusals::Permit;
 use refusals::Refusal;
@@ -24,7 +24,7 @@ use values::sound_speed_value;
 use values::stability_of;
 ghost use mathlib.Core.Path.{_≡_};
 ghost use Rattle.fluids.specs.declared.Fluid.the-variants.{R245ca};
-ghost use Rattle.equation.specs.Kept.{stateAt};
+ghost use Rattle.equation.specs.State.{stateAt};
 ghost use Rattle.properties.specs.Calls as Calls;
 
 // What is asked of a state.

@@ -2,8 +2,8 @@
 use mathlib.Core.Path.{sym, _∙_, ap}
 use borrow.Author.Needs.{needs}
 use Rattle.arithmetic.specs.Answered.{answerFrom}
-use Rattle.equation.specs.declared.kept.Kept.{Kept}
-use Rattle.equation.specs.Kept.{stateAt, pressureAt}
+use Rattle.kept.specs.declared.Kept.{Kept}
+use Rattle.equation.specs.State.{stateAt, pressureAt}
 use Rattle.values.specs.Values.{energyValue, enthalpyValue, isochoricValue, entropyValue, gibbsValue, helmholtzValue}
 use Rattle.properties.specs.declared.calls.Property.{Property}
 use Rattle.properties.specs.Calls.{workedOf, stableIsobaric, stableSoundSpeed}
