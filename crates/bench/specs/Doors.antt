@@ -10,7 +10,8 @@ use Rattle.refusals.specs.declared.Answer.{Answer}
 use Rattle.refusals.specs.declared.Answer.the-variants.{Number, Refused}
 use Rattle.arithmetic.specs.Checked.{real}
 use Rattle.fluids.specs.declared.Fluid.the-variants.{R245ca}
-use Rattle.equation.specs.Kept.{keptOf, pressureAt}
+use Rattle.kept.specs.Kept.{keptOf}
+use Rattle.equation.specs.State.{pressureAt}
 use Rattle.density.specs.declared.Side.{Side}
 use Rattle.density.specs.declared.Side.the-variants.{FromBelow, FromAbove}
 use Rattle.density.specs.declared.Found.{Found}

@@ -18,7 +18,7 @@ use Rattle.arithmetic.specs.Answered.{answerFrom}
 use Rattle.fluids.specs.declared.Fluid.{Fluid}
 use Rattle.fluids.specs.Entries.{entryOf}
 use Rattle.properties.specs.Calls.{pressureOf, workedDensity, energyOf, enthalpyOf, isochoricOf}
-use Rattle.equation.specs.Kept.{stateAt, pressureValue}
+use Rattle.equation.specs.State.{stateAt, pressureValue}
 use Rattle.values.specs.Values.{energyValue, enthalpyValue, isochoricValue}
 use Rattle.saturation.specs.Estimates.{pressureEstimate, liquidEstimate, vapourEstimate}
 use Rattle.saturation.specs.Calls.{saturationPressureOf, saturatedLiquidOf, saturatedVapourOf}

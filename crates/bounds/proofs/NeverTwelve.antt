@@ -6,7 +6,7 @@ use Rattle.refusals.specs.declared.Refusal.the-variants.{WorkNotFinite}
 use Rattle.refusals.specs.declared.Permit.the-variants.{Granted}
 use Rattle.refusals.specs.declared.Answer.the-variants.{Number, Refused}
 use Rattle.fluids.specs.declared.Fluid.{Fluid}
-use Rattle.equation.specs.Kept.{stateAt, pressureValue}
+use Rattle.equation.specs.State.{stateAt, pressureValue}
 use Rattle.values.specs.Values.{energyValue, enthalpyValue, isochoricValue}
 use Rattle.properties.specs.Calls.{workedDensity, pressureOf, energyOf, enthalpyOf, isochoricOf}
 use Rattle.inputs.specs.Inputs.{statePermit}

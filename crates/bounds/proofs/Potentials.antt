@@ -23,7 +23,7 @@ use Rattle.arithmetic.proofs.Order.{lt-of-not-le, not-le-of-lt}
 use Rattle.fluids.specs.declared.Fluid.{Fluid}
 use Rattle.ideal.specs.Ideal.{I0}
 use Rattle.equation.specs.declared.state.State.{State}
-use Rattle.equation.specs.Kept.{stateAt}
+use Rattle.equation.specs.State.{stateAt}
 use Rattle.values.specs.Values.{i0, entropyValue, gibbsOverRT, gibbsValue, helmholtzValue}
 use Rattle.properties.specs.Calls.{workedDensity, entropyOf, gibbsOf, helmholtzOf}
 use Rattle.inputs.specs.Inputs.{stateTests, statePermit, potentialPermit}

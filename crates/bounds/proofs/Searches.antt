@@ -24,8 +24,9 @@ use Rattle.fluids.specs.declared.Fluid.{Fluid}
 use Rattle.fluids.specs.Entry.{mostCells}
 use Rattle.fluids.specs.Entries.{entryOf}
 use Rattle.fluids.proofs.Sound.{sound}
-use Rattle.equation.specs.Kept.{keptOf, pressureAt}
-use Rattle.equation.proofs.Entry.{kept-fluid}
+use Rattle.kept.specs.Kept.{keptOf}
+use Rattle.equation.specs.State.{pressureAt}
+use Rattle.kept.proofs.Parts.{kept-fluid}
 use Rattle.search.specs.declared.Located.{Located}
 use Rattle.search.specs.Plain.{endStep, atEnds}
 use Rattle.search.proofs.GreatestAndLeast.{Numbers}

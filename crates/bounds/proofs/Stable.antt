@@ -23,8 +23,9 @@ use Rattle.elementary.specs.Root.{rootOf}
 use Rattle.arithmetic.specs.Answered.{answerFrom}
 use Rattle.arithmetic.proofs.Order as tests
 use Rattle.fluids.specs.declared.Fluid.{Fluid}
-use Rattle.equation.specs.Kept.{keptOf, stateOf, stateAt}
-use Rattle.equation.proofs.Entry.{kept-fluid, kept-t}
+use Rattle.kept.specs.Kept.{keptOf}
+use Rattle.equation.specs.State.{stateOf, stateAt}
+use Rattle.kept.proofs.Parts.{kept-fluid, kept-t}
 use Rattle.arithmetic.proofs.Operations.{⊖-squashed}
 use Rattle.values.specs.Values.{«V», K, Q, stabilityOf, soundSpeedFrom, isobaricValue, soundSpeedValue}
 use Rattle.properties.specs.Calls.{workedDensity, stableOf, stabilityPermit, isobaricOf, soundSpeedOf}

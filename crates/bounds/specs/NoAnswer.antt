@@ -18,7 +18,7 @@ use Rattle.arithmetic.specs.Checked.{real, two⁻, minus, between, _⊕_, _⊗_
 use Rattle.elementary.specs.Calls.{exponentialOf, logarithmOf, squareRootOf}
 use Rattle.fluids.specs.declared.Fluid.{Fluid}
 use Rattle.fluids.specs.Entries.{entryOf}
-use Rattle.equation.specs.Kept.{stateAt}
+use Rattle.equation.specs.State.{stateAt}
 use Rattle.values.specs.Values.{«V», K, Q}
 use Rattle.properties.specs.Calls.{workedDensity, stabilityPermit, pressureOf, energyOf, enthalpyOf, isochoricOf, entropyOf, gibbsOf, helmholtzOf, isobaricOf, soundSpeedOf}
 use Rattle.inputs.specs.Inputs.{statePermit, potentialPermit}

@@ -8,9 +8,10 @@ use Rattle.elementary.specs.Root.{rootSteps, rootOf}
 use Rattle.elementary.specs.Power.{_↑_}
 use Rattle.fluids.specs.R245ca.{r245ca}
 use Rattle.fluids.specs.Entries.{entryOf}
-use Rattle.equation.specs.Rows.{powerAt, bellAt, xAt, rowAt}
-use Rattle.equation.specs.Sums.{rowFirst, sumsFirst, rowOf, sumsTo}
-use Rattle.equation.specs.Kept.{keptOf, sumsAt, stateOf, pressureValue}
+use Rattle.kept.specs.Kept.{powerAt, bellAt, keptOf}
+use Rattle.sums.specs.Rows.{xAt, rowAt}
+use Rattle.sums.specs.Sums.{rowFirst, sumsFirst, rowOf, sumsTo, sumsAt}
+use Rattle.equation.specs.State.{stateOf, pressureValue}
 use Rattle.properties.specs.Calls.{workedDensity, pressureOf, entropyOf}
 use Rattle.inputs.specs.Inputs.{statePermit, potentialPermit}
 use Rattle.search.specs.Plain.{visitUp, cellFromBelow, visitDown, cellFromAbove}

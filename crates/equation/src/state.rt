@@ -1,11 +1,11 @@
 // A state: a kept temperature and a density, worked once for every property.
-use crate::kept::Kept;
-use crate::sums::Sums;
-use crate::sums::sums_at;
 use arithmetic::squash;
 use fluids::Fluid;
+use kept::Kept;
+use sums::Sums;
+use sums::sums_at;
 ghost use mathlib.Core.Path.{_≡_};
-ghost use Rattle.equation.specs.Kept.{stateOf};
+ghost use Rattle.equation.specs.State.{stateOf};
 
 // The fluid, T, τ, ln τ, ρ, δ and the six sums.
 pub struct State {

@@ -4,7 +4,7 @@ use crate::exps::finished;
 use crate::exps::scaled;
 use crate::exps::step;
 ghost use mathlib.Core.Path.{_≡_};
-ghost use mathlib.Core.List.{map};
+ghost use mathlib.Core.List.{map, _++_};
 ghost use Rattle.arithmetic.specs.Checked.{squash, real};
 ghost use Rattle.exponentials.specs.Exp.{scaledOf, expSteps, squared, expOf};
 ghost use Rattle.arithmetic.specs.Lanes.{atEach, lane};
@@ -56,4 +56,21 @@ pub fn seven_exps(x: [f64; 7]) -> [f64; 7]
     ensures { λ r. ⌜ r ≡ map expOf x ⌝ }
 {
     all_finished(all_steps(all_scaled(x)))
+}
+
+// Two sevens as the halves of one table.
+pub fn joined(first: [f64; 7], second: [f64; 7]) -> [f64; 14]
+    ensures { λ r. ⌜ r ≡ first ++ second ⌝ }
+{
+    let mut whole = [0.0; 14];
+    let mut i: usize = 0;
+    while i < 7 {
+        whole[i] = first[i];
+        i += 1;
+    }
+    while i < 14 {
+        whole[i] = second[i - 7];
+        i += 1;
+    }
+    whole
 }

@@ -1,10 +1,11 @@
 -- A fluid's entry: everything of 01 that is the fluid's own.
 use mathlib.Core.List.{List, _++_}
 use Prim.Native.Nat.{ℕ}
-use lib.ListN.{take, replicate}
-use lib.Ieee.{Float}
+use lib.ListN.{take, replicate, getD}
+use lib.Ieee.{Float, nan}
 use Rattle.arithmetic.specs.Checked.{real}
 use Rattle.fluids.specs.declared.Term.{Term}
+use Rattle.fluids.specs.declared.Term.the-variants.{Plain}
 use Rattle.fluids.specs.declared.Pair.{Pair}
 use Rattle.fluids.specs.declared.Estimate.{Estimate}
 use Rattle.fluids.specs.declared.Estimate.the-variants.{Alone}
@@ -41,6 +42,17 @@ pub record Entry : Type 0 where
   pub leastP : Float
   pub greatestP : Float
   pub topCells : ℕ
+
+-- what a table has where it has no row, and no pair
+abbrev pub noTerm : Term
+noTerm = Plain nan nan 0
+
+abbrev pub noPair : Pair
+noPair = record { v = nan; u = nan }
+
+-- term i of the rows
+abbrev pub termOf : List Term → ℕ → Term
+termOf rows i = getD rows i noTerm
 
 -- its single numbers, as the code hands them round
 abbrev pub constantsOf : Entry → Constants

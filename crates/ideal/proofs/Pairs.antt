@@ -4,16 +4,12 @@ use mathlib.Core.List.{List}
 use Prim.Native.Nat.{ℕ, _<_}
 use lib.Dec.{T}
 use lib.ListN.{length, getD}
-use lib.Ieee.{nan}
 use Rattle.fluids.specs.declared.Pair.{Pair}
 use Rattle.fluids.specs.declared.Fluid.{Fluid}
+use Rattle.fluids.specs.Entry.{noPair}
 use Rattle.fluids.specs.Entries.{entryOf}
 use Rattle.fluids.proofs.Sound.{every, every-at, any-default, finitePair, pair-finite, sound}
 use Rattle.fluids.specs.Finite.{FinitePair}
-
--- what a list of pairs has where it has nothing
-abbrev pub noPair : Pair
-noPair = record { v = nan; u = nan }
 
 -- what is read of a copy of the table
 module _ (F : Fluid) (ps : List Pair) (e : ps ≡ entryOf F .pairs) where

@@ -9,8 +9,8 @@ use Rattle.arithmetic.specs.Checked.{squash}
 use Rattle.arithmetic.proofs.Operations.{squash-add}
 use Rattle.arithmetic.proofs.Forced.{forced}
 use Rattle.fluids.specs.declared.Pair.{Pair}
+use Rattle.fluids.specs.Entry.{noPair}
 use Rattle.ideal.specs.Ideal.{totalTo}
-use Rattle.ideal.proofs.Pairs.{noPair}
 
 pub total-turn :
     (part : Pair → Float) (pairs : List Pair) (i : ℕ) (s x : Float) → squash s ≡ totalTo part pairs i → squash x ≡ part (getD pairs i noPair) →

@@ -1,13 +1,14 @@
 -- 01, "Ideal part": I0, I1, I2, with b = u/T and w = exp b. The sums over the pairs start at 0 by themselves and are then added.
 use mathlib.Core.List.{List}
 use Prim.Native.Nat.{ℕ, zero, suc}
-use lib.Ieee.{Float, nan}
+use lib.Ieee.{Float}
 use lib.ListN.{getD, length}
 use Rattle.arithmetic.specs.Checked.{real, minus, _▷_, _⊕_, _⊖_, _⊗_, _⊘_}
 use Rattle.exponentials.specs.Exp.{expOf}
 use Rattle.elementary.specs.Ln.{lnOf}
 use Rattle.fluids.specs.declared.Pair.{Pair}
 use Rattle.fluids.specs.declared.Fluid.{Fluid}
+use Rattle.fluids.specs.Entry.{noPair}
 use Rattle.fluids.specs.Entries.{entryOf}
 use Rattle.ideal.specs.declared.Part.{Part}
 use Rattle.ideal.specs.declared.Part.the-variants.{OfI0, OfI1, OfI2}
@@ -27,7 +28,7 @@ part2 T p = p .u ⊘ T ▷ λ b. expOf b ▷ λ w. p .v ⊗ b ⊗ b ⊗ w ⊘ ((
 -- Σ over the first i pairs
 unfoldable pub totalTo : (Pair → Float) → List Pair → ℕ → Float
 totalTo part pairs zero = real 0
-totalTo part pairs (suc i) = totalTo part pairs i ▷ λ s. s ⊕ part (getD pairs i (record { v = nan; u = nan }))
+totalTo part pairs (suc i) = totalTo part pairs i ▷ λ s. s ⊕ part (getD pairs i noPair)
 
 -- what each of the three sums adds of a pair
 abbrev pub partOf : Part → Float → Pair → Float

@@ -10,8 +10,8 @@ use Rattle.refusals.specs.declared.Refusal.{Refusal}
 use Rattle.refusals.specs.declared.Refusal.the-variants.{WorkNotFinite}
 use Rattle.arithmetic.specs.Checked.{real}
 use Rattle.fluids.specs.declared.Fluid.{Fluid}
-use Rattle.equation.specs.declared.kept.Kept.{Kept}
-use Rattle.equation.specs.Kept.{keptOf}
+use Rattle.kept.specs.declared.Kept.{Kept}
+use Rattle.kept.specs.Kept.{keptOf}
 use Rattle.search.specs.Plain.{atEnds}
 use Rattle.search.specs.Lists.{greatest, least, someNotFinite, filled, greatestList, leastList}
 use Rattle.search.specs.Quick.{entriesOf}

@@ -1,9 +1,9 @@
 // 01, "Preparing": the lists G and L of the pressures of an isotherm.
-use equation::Kept;
-use equation::keep;
 use fluids::Fluid;
 use inputs::prepare_inputs;
 use inputs::room;
+use kept::Kept;
+use kept::keep;
 use lists::clear;
 use lists::sweep_down;
 use lists::sweep_up;

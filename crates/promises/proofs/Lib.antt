@@ -4,6 +4,8 @@ pub mod Arithmetic
 pub mod Exponentials
 pub mod Elementary
 pub mod Fluids
+pub mod Kept
+pub mod Sums
 pub mod Equation
 pub mod Ideal
 pub mod Values

@@ -20,8 +20,9 @@ use Rattle.arithmetic.proofs.Zeros.{Vanishes, PlusZero, NotNegative, product-no
 use Rattle.fluids.specs.declared.Fluid.{Fluid}
 use Rattle.fluids.specs.Entries.{entryOf}
 use Rattle.fluids.proofs.Sound.{sound}
-use Rattle.equation.specs.Kept.{keptOf, pressureAt}
-use Rattle.equation.proofs.Entry.{kept-fluid, kept-t}
+use Rattle.kept.specs.Kept.{keptOf}
+use Rattle.equation.specs.State.{pressureAt}
+use Rattle.kept.proofs.Parts.{kept-fluid, kept-t}
 use Rattle.equation.proofs.Laws.{pressure-at-0}
 use Rattle.properties.specs.Calls.{workedDensity, pressureOf}
 use Rattle.inputs.specs.Inputs.{statePermit}

@@ -14,7 +14,7 @@ use Rattle.inputs.specs.Inputs.{statePermit, potentialPermit}
 use Rattle.properties.specs.declared.Property.{Property}
 use Rattle.properties.specs.declared.Property.the-variants.{Pressure, Energy, Enthalpy, IsochoricHeatCapacity, Entropy, GibbsEnergy, HelmholtzEnergy, IsobaricHeatCapacity, SoundSpeed}
 use Rattle.equation.specs.declared.state.State.{State}
-use Rattle.equation.specs.Kept.{stateAt, pressureValue}
+use Rattle.equation.specs.State.{stateAt, pressureValue}
 use Rattle.values.specs.Values.{«V», K, Q, energyValue, enthalpyValue, isochoricValue, entropyValue, gibbsValue, helmholtzValue, isobaricValue, soundSpeedValue}
 
 -- a density of minus zero is worked as +0

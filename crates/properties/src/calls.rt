@@ -4,12 +4,12 @@ use arithmetic::answer_from;
 use arithmetic::both_finite;
 use arithmetic::finite;
 use equation::State;
-use equation::keep;
 use equation::pressure_at;
 use equation::state_at;
 use fluids::Fluid;
 use inputs::potential_inputs;
 use inputs::state_inputs;
+use kept::keep;
 use refusals::Answer;
 use refusals::Permit;
 use refusals::Refusal;
@@ -25,7 +25,7 @@ use values::sound_speed_value;
 use values::stability_of;
 ghost use mathlib.Core.Path.{_≡_};
 ghost use Rattle.fluids.specs.declared.Fluid.the-variants.{R245ca};
-ghost use Rattle.equation.specs.Kept.{stateAt};
+ghost use Rattle.equation.specs.State.{stateAt};
 ghost use Rattle.properties.specs.Calls as Calls;
 
 // 12 where V, K or Q is not finite, then 11.

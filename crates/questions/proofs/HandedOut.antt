@@ -16,8 +16,9 @@ use Rattle.arithmetic.proofs.Answered.{HandsOutFinite, answer-from-hands-out-fi
 use Rattle.fluids.specs.declared.Fluid.{Fluid}
 use Rattle.fluids.specs.declared.Fluid.the-variants.{R245ca}
 use Rattle.fluids.specs.Entries.{entryOf}
-use Rattle.equation.specs.Kept.{keptOf, stateAt, pressureValue}
-use Rattle.equation.proofs.Entry.{kept-fluid}
+use Rattle.kept.specs.Kept.{keptOf}
+use Rattle.equation.specs.State.{stateAt, pressureValue}
+use Rattle.kept.proofs.Parts.{kept-fluid}
 use Rattle.properties.specs.Calls.{workedDensity, pressureOf}
 use Rattle.inputs.specs.Inputs.{statePermit}
 use Rattle.search.specs.declared.Located.{Located}

@@ -21,7 +21,7 @@ use Rattle.arithmetic.specs.Answered.{answerFrom}
 use Rattle.fluids.specs.declared.Fluid.{Fluid}
 use Rattle.fluids.specs.declared.Fluid.the-variants.{R245ca}
 use Rattle.fluids.specs.Entries.{entryOf}
-use Rattle.equation.specs.Kept.{stateAt, pressureValue}
+use Rattle.equation.specs.State.{stateAt, pressureValue}
 use Rattle.properties.specs.Calls.{pressureOf, workedDensity}
 use Rattle.density.specs.declared.Side.{Side}
 use Rattle.density.specs.declared.Found.{Found}

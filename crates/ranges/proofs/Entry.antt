@@ -10,7 +10,7 @@ use Rattle.arithmetic.specs.Checked.{real, two⁻, between}
 use Rattle.fluids.specs.declared.Fluid.{Fluid}
 use Rattle.fluids.specs.Entry.{Entry}
 use Rattle.fluids.specs.Entries.{entryOf}
-use Rattle.equation.specs.Kept.{stateAt, pressureValue}
+use Rattle.equation.specs.State.{stateAt, pressureValue}
 use Rattle.equation.proofs.Entry.{state-is}
 use Rattle.values.specs.Values.{«V», K, Q, energyValue, enthalpyValue, isochoricValue, entropyValue, gibbsValue, helmholtzValue, isobaricValue}
 use Rattle.arithmetic.proofs.Within.{between-finite}

@@ -18,14 +18,14 @@ use Rattle.arithmetic.proofs.Operations.{⊘-squashed}
 use Rattle.fluids.specs.declared.Term.{Term}
 use Rattle.fluids.specs.declared.Term.the-variants.{Plain, Damped, Bell}
 use Rattle.fluids.specs.declared.Fluid.{Fluid}
-use Rattle.fluids.specs.Entry.{Entry}
+use Rattle.fluids.specs.Entry.{Entry, noTerm}
 use Rattle.fluids.specs.Entries.{entryOf}
-use Rattle.equation.specs.declared.rows.Row.{Row}
-use Rattle.equation.specs.declared.kept.Kept.{Kept}
-use Rattle.equation.specs.declared.sums.Sums.{Sums}
-use Rattle.equation.specs.Rows.{exponentOf, powerAt, bellAt, xAt, rowAt}
-use Rattle.equation.specs.Sums.{rowFirst, sumsFirst, addRow, rowOf, sumsTo}
-use Rattle.equation.specs.Kept.{keptOf, sumsAt}
+use Rattle.kept.specs.declared.Kept.{Kept}
+use Rattle.kept.specs.Kept.{exponentOf, powerAt, bellAt, keptOf}
+use Rattle.sums.specs.declared.rows.Row.{Row}
+use Rattle.sums.specs.declared.Sums.{Sums}
+use Rattle.sums.specs.Rows.{xAt, rowAt}
+use Rattle.sums.specs.Sums.{rowFirst, sumsFirst, addRow, rowOf, sumsTo, sumsAt}
 use Rattle.intervals.proofs.Interval.{Interval, unknown, ends, In, anything, inside, point, at, squash-in, hull, hull-left, hull-right, fromOn, from-on-in, upTo, up-to-in, either-side, _▶_, computed}
 use Rattle.intervals.proofs.Representable.{sum-fits}
 use Rattle.intervals.proofs.Sum.{_⊞_, _⊟_, negated, _⟨⊕⟩_, _⟨⊖⟩_, ⟨minus⟩}
@@ -184,16 +184,13 @@ termOver Δ Θ Y term = rowAtOver Δ Θ (powerAtOver Y term) (xAtOver Δ (bellAt
 unfoldable pub sumsToOver : Interval → Interval → Interval → List Term → ℕ → SumsOver
 sumsToOver Δ Θ Y rows zero = noSumsOver
 sumsToOver Δ Θ Y rows (suc i) =
-    sumsComputed (sumsToOver Δ Θ Y rows i) λ S. rowComputed (termOver Δ Θ Y (getD rows i (Plain nan nan 0))) λ W. addRowOver S W
+    sumsComputed (sumsToOver Δ Θ Y rows i) λ S. rowComputed (termOver Δ Θ Y (getD rows i noTerm)) λ W. addRowOver S W
 
 -- what a table's list has at a place inside it
 squashed-at : {A : Type 0} (f : A → Float) (xs : List A) (i : ℕ) (z : A) → i < length xs → getD (map squash (map f xs)) i nan ≡ squash (f (getD xs i z))
 squashed-at f [] i z h = absurd (not-suc-le-zero h)
 squashed-at f (x ∷ xs) zero z h = refl
 squashed-at f (x ∷ xs) (suc i) z h = squashed-at f xs i z (le-of-suc-le-suc h)
-
-abbrev noTerm : Term
-noTerm = Plain nan nan 0
 
 module _ {Δ Θ Y : Interval} {δ τ y : Float} (rows : List Term) (inΔ : In Δ δ) (inΘ : In Θ τ) (inY : In Y y) where
   this-in : (i : ℕ) → i < length rows → (powers bells : List Float) → powers ≡ map squash (map (powerAt y) rows) → bells ≡ map squash (map (bellAt τ) rows)

@@ -17,7 +17,7 @@ use Rattle.fluids.specs.Entry.{Entry}
 use Rattle.fluids.specs.Entries.{entryOf}
 use Rattle.ideal.specs.Ideal.{part0, part1, part2, totalTo, totalOf, I0, I1, I2}
 use Rattle.equation.specs.declared.state.State.{State as Worked}
-use Rattle.equation.specs.Kept.{stateAt, pressureValue}
+use Rattle.equation.specs.State.{stateAt, pressureValue}
 use Rattle.equation.proofs.Entry.{stateBy, state-is}
 use Rattle.values.specs.Values.{i0, i1, «V», K, Q, stabilityOf, isobaricFrom, energyValue, enthalpyValue, isochoricValue, entropyValue, gibbsOverRT, gibbsValue, helmholtzValue, isobaricValue}
 use Rattle.intervals.proofs.Representable.{difference-fits, quotient-fits}

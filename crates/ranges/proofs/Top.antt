@@ -11,7 +11,7 @@ use Rattle.arithmetic.proofs.Order.{lt-le-trans}
 use Rattle.fluids.specs.declared.Fluid.{Fluid}
 use Rattle.fluids.specs.Entry.{Entry}
 use Rattle.fluids.specs.Entries.{entryOf}
-use Rattle.equation.specs.Kept.{stateAt, pressureValue}
+use Rattle.equation.specs.State.{stateAt, pressureValue}
 use Rattle.equation.proofs.Entry.{state-is}
 use Rattle.intervals.proofs.Fractions.{is-true, test-of-order}
 use Rattle.intervals.proofs.Interval.{Interval, unknown, ends, In, anything, inside, interval, tested, either-side, point, at, _▶_, computed}

@@ -6,7 +6,7 @@ use lib.Ieee.{Float, nan, inf, fin, isNan}
 use lib.Ieee.Scale.{finite}
 use Rattle.arithmetic.specs.Checked.{squash}
 use Rattle.fluids.specs.declared.Fluid.{Fluid}
-use Rattle.equation.specs.Kept.{keptOf}
+use Rattle.kept.specs.Kept.{keptOf}
 use Rattle.equation.proofs.Laws.{pressure-squashed}
 use Rattle.steps.specs.Steps.{stepDensityOf, stepPressureOf}
 use Rattle.steps.specs.Steps.{pressuresOf}

@@ -6,8 +6,9 @@ use lib.Ieee.{Float, nan, binary64, mul}
 use Rattle.arithmetic.specs.Checked.{real, two⁻}
 use Rattle.fluids.specs.declared.Fluid.{Fluid}
 use Rattle.fluids.specs.Entry.{mostCells}
-use Rattle.equation.specs.declared.kept.Kept.{Kept}
-use Rattle.equation.specs.Kept.{keptOf, pressureAt}
+use Rattle.kept.specs.declared.Kept.{Kept}
+use Rattle.kept.specs.Kept.{keptOf}
+use Rattle.equation.specs.State.{pressureAt}
 use Rattle.search.specs.Plain.{endStep}
 
 -- k·2⁻³⁰, in mol/dm³

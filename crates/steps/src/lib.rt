@@ -1,9 +1,9 @@
 // 01, "Density steps are k·2⁻³⁰, exact": the density of a step, and the pressures at steps and at coarse ends.
 //
 // For formulas: no fluid has more than MOST_CELLS cells, and beyond them each of these is one NaN.
-use equation::Kept;
 use equation::pressure_at;
 use fluids::MOST_CELLS;
+use kept::Kept;
 ghost use mathlib.Core.Path.{_≡_};
 ghost use Rattle.search.specs.Plain.{atEnds};
 ghost use Rattle.steps.specs.Steps.{inSteps, inEnds, stepDensityOf, stepPressureOf};

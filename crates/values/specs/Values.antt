@@ -1,4 +1,4 @@
--- 01, "With V, K, Q": the properties of a state, `nan` where 12 is owed; the pressure is equation/specs/Kept.antt's.
+-- 01, "With V, K, Q": the properties of a state, `nan` where 12 is owed; the pressure is equation/specs/State.antt's.
 use lib.Ieee.{Float}
 use Rattle.arithmetic.specs.Checked.{real, squash, _⊕_, _⊖_, _⊗_, _⊘_}
 use Rattle.elementary.specs.Root.{rootOf}

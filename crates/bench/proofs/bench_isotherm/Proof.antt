@@ -10,8 +10,8 @@ use lib.Ieee.{Float, nan, binary64, add}
 use lib.ListN.{length, getD}
 use Rattle.arithmetic.proofs.Literals.{lit-0}
 use Rattle.fluids.specs.declared.Fluid.the-variants.{R245ca}
-use Rattle.equation.specs.Kept.{pressureAt}
-use Rattle.equation.specs.declared.kept.Kept.{Kept}
+use Rattle.equation.specs.State.{pressureAt}
+use Rattle.kept.specs.declared.Kept.{Kept}
 use Rattle.bench.specs.Doors.{totalTo}
 use Rattle.bench.proofs.bench_isotherm.Statement.{statement}
 use Rattle.bench.proofs.bench_isotherm.Tie as tie

@@ -1,5 +1,5 @@
 // 01, "In the cell".
-use equation::Kept;
+use kept::Kept;
 use refusals::Refusal;
 use search::Located;
 use steps::step_pressure;

@@ -1,6 +1,6 @@
 // 01, "Plain, from below" and "from above": the scans over coarse ends.
 use crate::Side;
-use equation::Kept;
+use kept::Kept;
 use refusals::Refusal;
 use search::Located;
 use steps::end_pressure;

@@ -1,6 +1,6 @@
 // 01, "Quick": the search for a cell over a lent list.
 use crate::Side;
-use equation::Kept;
+use kept::Kept;
 use refusals::Refusal;
 use search::Located;
 use steps::end_pressure;

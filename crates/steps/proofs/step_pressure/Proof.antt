@@ -3,7 +3,7 @@ use mathlib.Core.Path.{sym, _∙_, ap}
 use native.Mathlib.Omega.{arith}
 use borrow.Author.Needs.{needs}
 use Rattle.arithmetic.proofs.Literals.{lit-nan}
-use Rattle.equation.specs.Kept.{pressureAt}
+use Rattle.equation.specs.State.{pressureAt}
 use Rattle.steps.specs.Steps.{stepPressureOf}
 use Rattle.steps.proofs.Inside.{step-inside, step-beyond, at-step}
 use Rattle.steps.proofs.step_pressure.Statement.{statement}

@@ -1,13 +1,13 @@
--- `pressure_at` meets its contract: squash goes through each operation. Assumes nothing.
+-- `pressure_at` meets its contract: squash goes through each operation, and S1 is squashed already. Assumes nothing.
 use mathlib.Core.Path.{_∙_, ap}
-use Rattle.arithmetic.specs.Checked.{squash, real}
+use Rattle.arithmetic.specs.Checked.{squash}
 use Rattle.arithmetic.proofs.Operations.{squash-add, squash-mul, ⊗-left, ⊗-right}
 use Rattle.arithmetic.proofs.Literals.{lit-1, squash-1, lit-1000, squash-1000}
 use Rattle.fluids.specs.declared.Constants.{Constants}
-use Rattle.fluids.specs.Entries.{entryOf}
 use Rattle.fluids.proofs.Sound.{sound}
-use Rattle.equation.specs.declared.sums.Sums.{Sums}
-use Rattle.equation.specs.Kept.{pressureAt, pressureValue, stateOf}
+use Rattle.sums.specs.declared.Sums.{Sums}
+use Rattle.sums.proofs.Squashed.{sums-squashed}
+use Rattle.equation.specs.State.{pressureAt, pressureValue, stateOf}
 use Rattle.equation.proofs.Entry.{sums-by-entry}
 use borrow.Author.Needs.{needs}
 use Rattle.equation.proofs.pressure.pressure_at.Statement.{statement}
@@ -16,12 +16,13 @@ use Rattle.equation.proofs.pressure.pressure_at.Tie as tie
 returns : tie.Need-returns
 unfolding pressureAt pressureValue stateOf
 returns c =
-    let summed = c .before .before in
+    let summed = c .before in
     let entry = summed .before .before in
     let args = entry .before .args in
     let gas = ap (λ (k : Constants). k .gas) (entry .single-numbers .ensures) in
     let s1 =
-    ap (λ (s : Sums). s .s1) (summed .summed .ensures ∙ sums-by-entry (args .kept) (args .rho) (entry .single-numbers .result) (entry .single-numbers .ensures)) in
+    ap squash (summed .s1-at .ensures)
+    ∙ ap (λ (s : Sums). s .s1) (sums-squashed (args .kept) _ ∙ sums-by-entry (args .kept) (args .rho) (entry .single-numbers .result) (entry .single-numbers .ensures)) in
     c .squash .ensures
     ∙ simp (
       squash-mul,

@@ -1,11 +1,10 @@
 -- `state_at` meets its contract: δ by the entry's critical density, and the sums there. Assumes nothing.
 use mathlib.Core.Path.{_∙_, ap}
 use borrow.Author.Needs.{needs}
-use lib.Ieee.{Float, binary64, div}
+use lib.Ieee.{binary64, div}
 use Rattle.arithmetic.specs.Checked.{squash, _⊘_}
 use Rattle.fluids.specs.declared.Constants.{Constants}
-use Rattle.equation.specs.declared.state.State.{State}
-use Rattle.equation.specs.Kept.{sumsAt, stateOf}
+use Rattle.equation.specs.State.{stateOf}
 use Rattle.equation.proofs.state.state_at.Statement.{statement}
 use Rattle.equation.proofs.state.state_at.Tie as tie
 

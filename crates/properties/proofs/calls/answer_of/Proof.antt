@@ -4,7 +4,7 @@ use mathlib.Core.Path.{sym, _∙_, ap}
 use borrow.Author.Needs.{needs}
 use lib.Ieee.{Float}
 use Rattle.refusals.proofs.Needed.{permitted-granted, permitted-denied}
-use Rattle.equation.specs.Kept.{stateAt}
+use Rattle.equation.specs.State.{stateAt}
 use Rattle.properties.specs.Calls.{workedOf}
 use Rattle.properties.proofs.calls.answer_of.Statement.{statement}
 use Rattle.properties.proofs.calls.answer_of.Tie as tie

@@ -1,8 +1,8 @@
 -- `state_of` meets its contract: the state of what is kept. Assumes nothing.
 use mathlib.Core.Path.{_∙_, ap}
 use borrow.Author.Needs.{needs}
-use Rattle.equation.specs.declared.kept.Kept.{Kept}
-use Rattle.equation.specs.Kept.{stateOf}
+use Rattle.kept.specs.declared.Kept.{Kept}
+use Rattle.equation.specs.State.{stateOf}
 use Rattle.properties.proofs.calls.state_of.Statement.{statement}
 use Rattle.properties.proofs.calls.state_of.Tie as tie
 

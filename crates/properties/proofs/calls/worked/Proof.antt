@@ -2,8 +2,8 @@
 use mathlib.Core.Path.{_∙_, ap}
 use borrow.Author.Needs.{needs}
 use Rattle.arithmetic.specs.Answered.{answerFrom}
-use Rattle.equation.specs.declared.kept.Kept.{Kept}
-use Rattle.equation.specs.Kept.{pressureAt}
+use Rattle.kept.specs.declared.Kept.{Kept}
+use Rattle.equation.specs.State.{pressureAt}
 use Rattle.values.specs.Values.{energyValue, enthalpyValue, isochoricValue, entropyValue, gibbsValue, helmholtzValue}
 use Rattle.properties.specs.Calls.{stableIsobaric, stableSoundSpeed}
 use Rattle.properties.proofs.calls.worked.Statement.{statement}

@@ -1,0 +1,26 @@
+-- The state and the pressure at a density, of a temperature that is kept.
+use lib.Ieee.{Float}
+use Rattle.arithmetic.specs.Checked.{real, _⊘_, _⊗_, _⊕_}
+use Rattle.fluids.specs.declared.Fluid.{Fluid}
+use Rattle.fluids.specs.Entries.{entryOf}
+use Rattle.kept.specs.declared.Kept.{Kept}
+use Rattle.kept.specs.Kept.{keptOf}
+use Rattle.sums.specs.Sums.{sumsAt}
+use Rattle.equation.specs.declared.state.State.{State}
+
+-- the state at a density: δ = ρ/ρc, and the sums there
+unfoldable pub stateOf : Kept → Float → State
+stateOf k ρ =
+    let δ = ρ ⊘ entryOf (k .fluid) .ρc in
+    record { fluid = k .fluid; t = k .t; tau = k .tau; «ln_tau» = k .«ln_tau»; rho = ρ; delta = δ; sums = sumsAt k δ }
+
+-- the state of a fluid at T and ρ
+abbrev pub stateAt : Fluid → Float → Float → State
+stateAt F T ρ = stateOf (keptOf F T) ρ
+
+-- pressure ((ρ·1000)·(R·T))·(1 + S1)
+unfoldable pub pressureValue : State → Float
+pressureValue s = ((s .rho ⊗ real 1000) ⊗ (entryOf (s .fluid) .R ⊗ s .t)) ⊗ (real 1 ⊕ s .sums .s1)
+
+unfoldable pub pressureAt : Kept → Float → Float
+pressureAt k ρ = pressureValue (stateOf k ρ)

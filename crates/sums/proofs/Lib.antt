@@ -1,0 +1,4 @@
+mod Table
+mod Turn
+pub mod Squashed
+pub mod Vanishing

@@ -1,0 +1,4 @@
+pub mod Rows
+pub mod Sums
+pub mod Squashed
+pub mod Factors
