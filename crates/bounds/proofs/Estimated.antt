@@ -1,21 +1,18 @@
 -- The three saturation estimates never refuse with 12: where the call is permitted T is in the range over which they are finite.
 use mathlib.Core.Path.{_≡_}
-use mathlib.Core.List.{[], _∷_}
 use lib.Dec.{T}
 use lib.Ieee.{Float, le}
 use lib.Ieee.Fits.{and-l}
 use lib.Ieee.Scale.{finite}
-use Rattle.refusals.specs.declared.Refusal.the-variants.{InputNotFinite, TemperatureOutside, AboveCritical, WorkNotFinite}
+use Rattle.refusals.specs.declared.Refusal.the-variants.{WorkNotFinite}
 use Rattle.refusals.specs.declared.Permit.the-variants.{Granted, Denied}
 use Rattle.refusals.specs.declared.Answer.the-variants.{Refused}
-use Rattle.refusals.specs.Order.{firstOf}
-use Rattle.refusals.proofs.Needed.{test-passed, rest-granted}
 use Rattle.arithmetic.specs.Checked.{between}
-use Rattle.arithmetic.proofs.Order as tests
 use Rattle.fluids.specs.declared.Fluid.{Fluid}
 use Rattle.fluids.specs.Entries.{entryOf}
 use Rattle.saturation.specs.Estimates.{pressureEstimate, liquidEstimate, vapourEstimate}
-use Rattle.inputs.specs.Inputs.{saturationPermit}
+use Rattle.inputs.specs.Inputs.{saturationTests, saturationPermit}
+use Rattle.inputs.proofs.Passed.{saturation-passed}
 use Rattle.saturation.specs.Calls.{saturationPressureOf, saturatedLiquidOf, saturatedVapourOf}
 use Rattle.intervals.proofs.Fractions.{holds}
 use Rattle.refusals.proofs.InOrder.{never-denied}
@@ -25,18 +22,13 @@ use Rattle.ranges.proofs.Passes.{entry-estimate-ends, entry-estimates}
 
 module _ (F : Fluid) (t : Float) where
   saturation-granted : saturationPermit F t ≡ Granted → T (le (entryOf F .leastT) t) × T (le t (entryOf F .Tc))
-  unfolding saturationPermit
   saturation-granted p =
-      let last = firstOf ((le t (entryOf F .Tc), AboveCritical) ∷ []) in
-      let inner = firstOf ((between (entryOf F .leastT) t (entryOf F .greatestT), TemperatureOutside) ∷ (le t (entryOf F .Tc), AboveCritical) ∷ []) in
-      let q = rest-granted (finite t) inner InputNotFinite p in (
-        and-l (le (entryOf F .leastT) t) (le t (entryOf F .greatestT)) (holds (between (entryOf F .leastT) t (entryOf F .greatestT)) (test-passed _ last TemperatureOutside q)),
-        holds (le t (entryOf F .Tc)) (test-passed _ Granted AboveCritical (rest-granted (between (entryOf F .leastT) t (entryOf F .greatestT)) last TemperatureOutside q)),
-      )
+      let (number, (temperature, (below, none))) = saturation-passed F t p in
+      (and-l (le (entryOf F .leastT) t) (le t (entryOf F .greatestT)) (holds (between (entryOf F .leastT) t (entryOf F .greatestT)) temperature), holds (le t (entryOf F .Tc)) below)
 
   saturation-denied : saturationPermit F t ≡ Denied WorkNotFinite → ⊥
   unfolding saturationPermit
-  saturation-denied = never-denied WorkNotFinite ((finite t, InputNotFinite) ∷ (between (entryOf F .leastT) t (entryOf F .greatestT), TemperatureOutside) ∷ (le t (entryOf F .Tc), AboveCritical) ∷ []) tt
+  saturation-denied = never-denied WorkNotFinite (saturationTests F t) tt
 
   pub granted-finite : saturationPermit F t ≡ Granted → T (finite (pressureEstimate F t)) × T (finite (liquidEstimate F t)) × T (finite (vapourEstimate F t))
   granted-finite g = let (low, high) = saturation-granted g in estimates-finite F (entry-estimate-ends F) (entry-estimates F) t low high

@@ -1,17 +1,16 @@
 -- What a granted permit says of a state, and that no permit of the inputs denies with 12.
 use mathlib.Core.Path.{_≡_, refl, subst}
-use mathlib.Core.Bool.{Bool, true, false, cond, _&&_}
-use mathlib.Core.List.{[], _∷_}
+use mathlib.Core.Bool.{Bool, true, false, cond}
 use lib.Dec.{T}
 use lib.Ieee.{Float, nan, inf, fin, le, lt, eq, ofInt, round}
 use lib.Ieee.Fits.{and-i, and-l, and-r}
 use lib.Ieee.Scale.{finite}
-use Rattle.refusals.specs.declared.Refusal.the-variants.{InputNotFinite, TemperatureOutside, DensityOutside, WorkNotFinite}
+use Rattle.refusals.specs.declared.Refusal.the-variants.{WorkNotFinite}
 use Rattle.refusals.specs.declared.Permit.{Permit}
 use Rattle.refusals.specs.declared.Permit.the-variants.{Granted, Denied}
 use Rattle.refusals.specs.declared.Answer.the-variants.{Number, Refused}
-use Rattle.refusals.specs.Order.{firstOf, permitted}
-use Rattle.refusals.proofs.Needed.{test-passed, rest-granted, permitted-granted}
+use Rattle.refusals.specs.Order.{permitted}
+use Rattle.refusals.proofs.Needed.{permitted-granted}
 use Rattle.arithmetic.specs.Checked.{real, between}
 use Rattle.refusals.proofs.InOrder.{never-denied}
 use Rattle.arithmetic.specs.Answered.{answerFrom}
@@ -21,6 +20,7 @@ use Rattle.fluids.specs.declared.Fluid.{Fluid}
 use Rattle.fluids.specs.Entries.{entryOf}
 use Rattle.properties.specs.Calls.{workedDensity}
 use Rattle.inputs.specs.Inputs.{stateTests, potentialTests, statePermit, potentialPermit}
+use Rattle.inputs.proofs.Passed.{state-passed}
 use Rattle.intervals.proofs.Fractions.{holds, is-true}
 
 -- ---- an answer is 12 only where the permit is granted and the value is not finite
@@ -48,14 +48,9 @@ module _ (F : Fluid) (t ρ : Float) where
   potential-denied = never-denied WorkNotFinite (potentialTests F t ρ) tt
 
   pub state-granted : statePermit F t ρ ≡ Granted → T (between (entryOf F .leastT) t (entryOf F .greatestT)) × T (between (real 0) ρ (entryOf F .greatestρ))
-  unfolding statePermit
   state-granted p =
-      let last = firstOf ((between (real 0) ρ (entryOf F .greatestρ), DensityOutside) ∷ []) in
-      let inner = firstOf ((between (entryOf F .leastT) t (entryOf F .greatestT), TemperatureOutside) ∷ (between (real 0) ρ (entryOf F .greatestρ), DensityOutside) ∷ []) in
-      let q = rest-granted (finite t && finite ρ) inner InputNotFinite p in (
-        holds (between (entryOf F .leastT) t (entryOf F .greatestT)) (test-passed _ last TemperatureOutside q),
-        holds (between (real 0) ρ (entryOf F .greatestρ)) (test-passed _ Granted DensityOutside (rest-granted (between (entryOf F .leastT) t (entryOf F .greatestT)) last TemperatureOutside q)),
-      )
+      let (numbers, (temperature, (density, none))) = state-passed F t ρ p in
+      (holds (between (entryOf F .leastT) t (entryOf F .greatestT)) temperature, holds (between (real 0) ρ (entryOf F .greatestρ)) density)
 
   -- a density of minus zero is worked as +0, which is in the range too
   pub worked-in-range : T (between (real 0) ρ (entryOf F .greatestρ)) → T (between (real 0) (workedDensity ρ) (entryOf F .greatestρ))

@@ -1,4 +1,4 @@
--- What a permitted search or preparation grants of its numbers: a top of at most the most cells, and room in both lists.
+-- What permitted inputs grant: each test passed; of a search or a preparation, a top of at most the most cells, and room in both lists.
 use mathlib.Core.Path.{_≡_, sym, ap, _∙_}
 use mathlib.Core.Bool.{Bool, true}
 use Prim.Native.Nat.{ℕ, _≤_, _<_}
@@ -15,7 +15,15 @@ use Rattle.fluids.specs.declared.Fluid.{Fluid}
 use Rattle.fluids.specs.Entry.{mostCells}
 use Rattle.fluids.specs.Entries.{entryOf}
 use Rattle.fluids.proofs.Sound.{sound}
-use Rattle.inputs.specs.Inputs.{topTest, roomOf, searchTests, searchPermit, prepareTests, preparePermit}
+use Rattle.inputs.specs.Inputs.{topTest, roomOf, stateTests, statePermit, saturationTests, saturationPermit, searchTests, searchPermit, prepareTests, preparePermit}
+
+pub state-passed : (F : Fluid) (t ρ : Float) → statePermit F t ρ ≡ Granted → AllPassed (stateTests F t ρ)
+unfolding statePermit
+state-passed F t ρ ok = all-passed (stateTests F t ρ) ok
+
+pub saturation-passed : (F : Fluid) (t : Float) → saturationPermit F t ≡ Granted → AllPassed (saturationTests F t)
+unfolding saturationPermit
+saturation-passed F t ok = all-passed (saturationTests F t) ok
 
 pub search-passed : (F : Fluid) (t P : Float) (c : ℕ) (room : Bool) → searchPermit F t P c room ≡ Granted → AllPassed (searchTests F t P c room)
 unfolding searchPermit
