@@ -1,7 +1,7 @@
 // The pressure at a density, for the temperature that is kept.
 use arithmetic::squash;
 use kept::Kept;
-use sums::s1_at;
+use sums::sums_at;
 ghost use mathlib.Core.Path.{_≡_};
 ghost use Rattle.equation.specs.State.{pressureAt};
 
@@ -14,6 +14,6 @@ pub fn pressure_at(kept: Kept, rho: f64) -> f64
     let gas = numbers.gas;
     let t = kept.t;
     let delta = rho / numbers.critical_density;
-    let s1 = s1_at(kept, delta);
-    squash(((rho * 1000.0) * (gas * t)) * (1.0 + s1))
+    let s = sums_at(kept, delta);
+    squash(((rho * 1000.0) * (gas * t)) * (1.0 + s.s1))
 }

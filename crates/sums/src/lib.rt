@@ -86,11 +86,3 @@ pub fn sums_at(kept: Kept, delta: f64) -> Sums
 {
     settled(summed(kept, delta))
 }
-
-// S1 alone, which is all that the pressure needs: the other five are not settled.
-pub fn s1_at(kept: Kept, delta: f64) -> f64
-    ensures { λ r. ⌜ r ≡ sumsAt kept delta .s1 ⌝ }
-{
-    let s = summed(kept, delta);
-    squash(s.s1)
-}

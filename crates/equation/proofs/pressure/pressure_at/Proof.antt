@@ -1,4 +1,4 @@
--- `pressure_at` meets its contract: squash goes through each operation, and S1 is squashed already. Assumes nothing.
+-- `pressure_at` meets its contract: squash goes through each operation, and the sums are squashed already. Assumes nothing.
 use mathlib.Core.Path.{_∙_, ap}
 use Rattle.arithmetic.specs.Checked.{squash}
 use Rattle.arithmetic.proofs.Operations.{squash-add, squash-mul, ⊗-left, ⊗-right}
@@ -16,12 +16,12 @@ use Rattle.equation.proofs.pressure.pressure_at.Tie as tie
 returns : tie.Need-returns
 unfolding pressureAt pressureValue stateOf
 returns c =
-    let summed = c .before in
+    let summed = c .before .before in
     let entry = summed .before .before in
     let args = entry .before .args in
     let gas = ap (λ (k : Constants). k .gas) (entry .single-numbers .ensures) in
     let s1 =
-    ap squash (summed .s1-at .ensures)
+    ap (λ (s : Sums). squash (s .s1)) (summed .sums-at .ensures)
     ∙ ap (λ (s : Sums). s .s1) (sums-squashed (args .kept) _ ∙ sums-by-entry (args .kept) (args .rho) (entry .single-numbers .result) (entry .single-numbers .ensures)) in
     c .squash .ensures
     ∙ simp (
