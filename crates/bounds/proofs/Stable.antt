@@ -19,7 +19,7 @@ use Rattle.refusals.specs.Order.{permitted}
 use Rattle.refusals.proofs.Needed.{test-passed}
 use Rattle.refusals.proofs.InOrder.{never-denied}
 use Rattle.arithmetic.specs.Checked.{real, two⁻, between, _⊕_, _⊗_}
-use Rattle.elementary.specs.Root.{rootOf}
+use Rattle.roots.specs.Root.{rootOf}
 use Rattle.arithmetic.specs.Answered.{answerFrom}
 use Rattle.arithmetic.proofs.Order as tests
 use Rattle.fluids.specs.declared.Fluid.{Fluid}

@@ -2,6 +2,8 @@ pub mod Refusals
 pub mod Words
 pub mod Arithmetic
 pub mod Exponentials
+pub mod Logarithms
+pub mod Roots
 pub mod Elementary
 pub mod Fluids
 pub mod Kept

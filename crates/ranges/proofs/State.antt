@@ -7,10 +7,10 @@ use lib.ListN.{getD, length}
 use lib.Ieee.{Float, nan, binary64, round, fits, le}
 use lib.Ieee.Scale.{finite}
 use Rattle.arithmetic.specs.Checked.{real, two⁻, _⊕_, _⊖_, _⊗_, _⊘_}
-use Rattle.elementary.specs.Ln.{lnOf}
+use Rattle.logarithms.specs.Ln.{lnOf}
 use Rattle.arithmetic.proofs.Forced.{forced}
 use Rattle.arithmetic.proofs.Operations.{⊕-squashed}
-use Rattle.elementary.proofs.Literals.{finite-two⁻60}
+use Rattle.logarithms.proofs.Literals.{finite-two⁻60}
 use Rattle.fluids.specs.declared.Pair.{Pair}
 use Rattle.fluids.specs.declared.Fluid.{Fluid}
 use Rattle.fluids.specs.Entry.{Entry}

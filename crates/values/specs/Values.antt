@@ -1,7 +1,7 @@
 -- 01, "With V, K, Q": the properties of a state, `nan` where 12 is owed; the pressure is equation/specs/State.antt's.
 use lib.Ieee.{Float}
 use Rattle.arithmetic.specs.Checked.{real, squash, _⊕_, _⊖_, _⊗_, _⊘_}
-use Rattle.elementary.specs.Root.{rootOf}
+use Rattle.roots.specs.Root.{rootOf}
 use Rattle.fluids.specs.Entries.{entryOf}
 use Rattle.equation.specs.declared.state.State.{State}
 use Rattle.ideal.specs.Ideal.{I0, I1, I2}

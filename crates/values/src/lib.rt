@@ -1,12 +1,12 @@
 // 01, "With V, K, Q": the values of the properties of a state, one NaN where 12 is owed; the pressure is equation::pressure_at.
 use arithmetic::over;
 use arithmetic::squash;
-use elementary::root;
 use equation::State;
 use fluids::Fluid;
 use ideal::i0;
 use ideal::i1;
 use ideal::i2;
+use roots::root;
 ghost use mathlib.Core.Path.{_≡_};
 ghost use Rattle.values.specs.Values as Values;
 

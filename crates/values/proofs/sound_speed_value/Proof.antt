@@ -2,7 +2,7 @@
 use mathlib.Core.Path.{sym, _∙_, ap}
 use borrow.Author.Needs.{needs}
 use Rattle.arithmetic.proofs.Operations.{squash-add, squash-sub, squash-mul, ⊕-left, ⊕-right, ⊖-left, ⊖-right, ⊗-left, ⊗-right, squash-over, ⊘-squashed}
-use Rattle.elementary.proofs.Ranges.{root-squash}
+use Rattle.roots.proofs.Ranges.{root-squash}
 use Rattle.fluids.specs.declared.Constants.{Constants}
 use Rattle.values.specs.Values.{soundSpeedFrom}
 use Rattle.values.proofs.sound_speed_value.Statement.{statement}
