@@ -10,6 +10,7 @@ pub mod Kept
 pub mod Sums
 pub mod Equation
 pub mod Ideal
+pub mod Stability
 pub mod Values
 pub mod Properties
 pub mod Saturation

@@ -3,9 +3,9 @@ use mathlib.Core.Path.{_∙_, ap}
 use borrow.Author.Needs.{needs}
 use Rattle.arithmetic.proofs.Operations.{squash-add, squash-sub, squash-mul, ⊕-left, ⊕-right, ⊖-left, ⊖-right, ⊗-left, ⊗-right}
 use Rattle.arithmetic.proofs.Literals.{lit-1, lit-2}
-use Rattle.values.specs.Values.{«V», K, Q, stabilityOf}
-use Rattle.values.proofs.stability_of.Statement.{statement}
-use Rattle.values.proofs.stability_of.Tie as tie
+use Rattle.stability.specs.Stability.{«V», K, Q, stabilityOf}
+use Rattle.stability.proofs.stability_of.Statement.{statement}
+use Rattle.stability.proofs.stability_of.Tie as tie
 
 returns : tie.Need-returns
 unfolding «V» K Q stabilityOf

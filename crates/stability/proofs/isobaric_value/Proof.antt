@@ -3,9 +3,9 @@ use mathlib.Core.Path.{_∙_, ap}
 use borrow.Author.Needs.{needs}
 use Rattle.arithmetic.proofs.Operations.{squash-add, squash-sub, squash-mul, ⊕-left, ⊕-right, ⊖-left, ⊖-right, ⊗-left, ⊗-right, ⊘-squashed}
 use Rattle.fluids.specs.declared.Constants.{Constants}
-use Rattle.values.specs.Values.{isobaricFrom}
-use Rattle.values.proofs.isobaric_value.Statement.{statement}
-use Rattle.values.proofs.isobaric_value.Tie as tie
+use Rattle.stability.specs.Stability.{isobaricFrom}
+use Rattle.stability.proofs.isobaric_value.Statement.{statement}
+use Rattle.stability.proofs.isobaric_value.Tie as tie
 
 returns : tie.Need-returns
 unfolding isobaricFrom

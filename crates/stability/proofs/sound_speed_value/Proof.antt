@@ -4,9 +4,9 @@ use borrow.Author.Needs.{needs}
 use Rattle.arithmetic.proofs.Operations.{squash-add, squash-sub, squash-mul, ⊕-left, ⊕-right, ⊖-left, ⊖-right, ⊗-left, ⊗-right, squash-over, ⊘-squashed}
 use Rattle.roots.proofs.Ranges.{root-squash}
 use Rattle.fluids.specs.declared.Constants.{Constants}
-use Rattle.values.specs.Values.{soundSpeedFrom}
-use Rattle.values.proofs.sound_speed_value.Statement.{statement}
-use Rattle.values.proofs.sound_speed_value.Tie as tie
+use Rattle.stability.specs.Stability.{soundSpeedFrom}
+use Rattle.stability.proofs.sound_speed_value.Statement.{statement}
+use Rattle.stability.proofs.sound_speed_value.Tie as tie
 
 returns : tie.Need-returns
 unfolding soundSpeedFrom
