@@ -15,7 +15,7 @@ use Rattle.refusals.specs.declared.Answer.the-variants.{Refused}
 use Rattle.refusals.specs.Order.{firstOf, permitted}
 use Rattle.refusals.proofs.Needed.{test-passed, also, first-of-both, permitted-granted}
 use Rattle.arithmetic.specs.Checked.{real, two⁻, _⊕_, _⊖_}
-use Rattle.elementary.specs.Ln.{lnOf}
+use Rattle.logarithms.specs.Ln.{lnOf}
 use Rattle.arithmetic.specs.Answered.{answerFrom}
 use Rattle.arithmetic.proofs.Operations.{nan-⊕, nan-⊖}
 use Rattle.arithmetic.proofs.Zeros.{times-nan, plus-nan}

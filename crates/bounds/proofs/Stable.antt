@@ -19,7 +19,7 @@ use Rattle.refusals.specs.Order.{permitted}
 use Rattle.refusals.proofs.Needed.{test-passed}
 use Rattle.refusals.proofs.InOrder.{never-denied}
 use Rattle.arithmetic.specs.Checked.{real, two⁻, between, _⊕_, _⊗_}
-use Rattle.elementary.specs.Root.{rootOf}
+use Rattle.roots.specs.Root.{rootOf}
 use Rattle.arithmetic.specs.Answered.{answerFrom}
 use Rattle.arithmetic.proofs.Order as tests
 use Rattle.fluids.specs.declared.Fluid.{Fluid}
@@ -27,7 +27,7 @@ use Rattle.kept.specs.Kept.{keptOf}
 use Rattle.equation.specs.State.{stateOf, stateAt}
 use Rattle.kept.proofs.Parts.{kept-fluid, kept-t}
 use Rattle.arithmetic.proofs.Operations.{⊖-squashed}
-use Rattle.values.specs.Values.{«V», K, Q, stabilityOf, soundSpeedFrom, isobaricValue, soundSpeedValue}
+use Rattle.stability.specs.Stability.{«V», K, Q, stabilityOf, soundSpeedFrom, isobaricValue, soundSpeedValue}
 use Rattle.properties.specs.Calls.{workedDensity, stableOf, stabilityPermit, isobaricOf, soundSpeedOf}
 use Rattle.inputs.specs.Inputs.{statePermit}
 use Rattle.refusals.proofs.Tests.{by, and-passed}

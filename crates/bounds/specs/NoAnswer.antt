@@ -19,7 +19,7 @@ use Rattle.elementary.specs.Calls.{exponentialOf, logarithmOf, squareRootOf}
 use Rattle.fluids.specs.declared.Fluid.{Fluid}
 use Rattle.fluids.specs.Entries.{entryOf}
 use Rattle.equation.specs.State.{stateAt}
-use Rattle.values.specs.Values.{«V», K, Q}
+use Rattle.stability.specs.Stability.{«V», K, Q}
 use Rattle.properties.specs.Calls.{workedDensity, stabilityPermit, pressureOf, energyOf, enthalpyOf, isochoricOf, entropyOf, gibbsOf, helmholtzOf, isobaricOf, soundSpeedOf}
 use Rattle.inputs.specs.Inputs.{statePermit, potentialPermit}
 use Rattle.saturation.specs.Calls.{saturationPressureOf, saturatedLiquidOf, saturatedVapourOf}

@@ -3,8 +3,8 @@ use mathlib.Core.Path.{refl}
 use lib.Ieee.{isNan, add, sub, mul, div, neg, ofInt, round, ofBits, toBits, le, lt, eq}
 use Rattle.arithmetic.specs.Checked.{within, minus, _▷_, _⊕_, _⊖_, _⊗_, _⊘_}
 use Rattle.exponentials.specs.Exp.{expSteps, squared, expWork, expOf}
-use Rattle.elementary.specs.Ln.{mOf, eOf, lnSteps, lnWork, lnOf}
-use Rattle.elementary.specs.Root.{rootSteps, rootOf}
+use Rattle.logarithms.specs.Ln.{mOf, eOf, lnSteps, lnWork, lnOf}
+use Rattle.roots.specs.Root.{rootSteps, rootOf}
 use Rattle.elementary.specs.Power.{_↑_}
 use Rattle.fluids.specs.R245ca.{r245ca}
 use Rattle.fluids.specs.Entries.{entryOf}

@@ -1,6 +1,2 @@
-pub mod Literals
 pub mod Ranges
-pub mod Turns
-pub mod Fields
-pub mod Split
 pub mod Called

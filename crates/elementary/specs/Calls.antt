@@ -7,8 +7,8 @@ use Rattle.refusals.specs.declared.Answer.{Answer}
 use Rattle.refusals.specs.Order.{need}
 use Rattle.arithmetic.specs.Answered.{answerFrom}
 use Rattle.exponentials.specs.Exp.{expOf}
-use Rattle.elementary.specs.Ln.{lnOf}
-use Rattle.elementary.specs.Root.{rootOf}
+use Rattle.logarithms.specs.Ln.{lnOf}
+use Rattle.roots.specs.Root.{rootOf}
 
 -- a call at x with the worked value v
 abbrev pub calledOf : Float → Float → Answer

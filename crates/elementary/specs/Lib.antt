@@ -1,4 +1,2 @@
-pub mod Ln
-pub mod Root
 pub mod Power
 pub mod Calls

@@ -4,7 +4,7 @@ use Prim.Native.Nat.{ℕ, zero, suc}
 use lib.Ieee.{Float, eq}
 use Rattle.arithmetic.specs.Checked.{real, _⊗_}
 use Rattle.exponentials.specs.Exp.{expOf}
-use Rattle.elementary.specs.Ln.{lnOf}
+use Rattle.logarithms.specs.Ln.{lnOf}
 
 infixl 75 _↑_
 unfoldable pub powerOf : Float → Float → Float

@@ -1,11 +1,11 @@
 // The elementary functions as calls: a number, or a numbered refusal.
-use crate::logs::ln;
-use crate::roots::root;
 use arithmetic::answer_from;
 use arithmetic::finite;
 use exponentials::exp;
+use logarithms::ln;
 use refusals::Answer;
 use refusals::Refusal;
+use roots::root;
 ghost use mathlib.Core.Path.{_≡_};
 ghost use Rattle.elementary.specs.Calls.{calledOf, exponentialOf, logarithmOf, squareRootOf};
 

@@ -1,6 +1,6 @@
 // 01, "xᵗ with an exponent t is exp(t·ln x); 0ᵗ is 0".
-use crate::logs::ln;
 use exponentials::exp;
+use logarithms::ln;
 ghost use mathlib.Core.Path.{_≡_};
 ghost use Rattle.elementary.specs.Power.{powerOf};
 

@@ -5,7 +5,7 @@ use lib.Ieee.{Float}
 use lib.ListN.{getD, length}
 use Rattle.arithmetic.specs.Checked.{real, minus, _▷_, _⊕_, _⊖_, _⊗_, _⊘_}
 use Rattle.exponentials.specs.Exp.{expOf}
-use Rattle.elementary.specs.Ln.{lnOf}
+use Rattle.logarithms.specs.Ln.{lnOf}
 use Rattle.fluids.specs.declared.Pair.{Pair}
 use Rattle.fluids.specs.declared.Fluid.{Fluid}
 use Rattle.fluids.specs.Entry.{noPair}

@@ -1,10 +1,10 @@
 // 01, "Ideal part", for formulas: I0, I1, I2, each one NaN where a value in it is not finite.
 use arithmetic::over;
 use arithmetic::squash;
-use elementary::ln;
 use exponentials::exp;
 use fluids::Fluid;
 use fluids::Pair;
+use logarithms::ln;
 ghost use mathlib.Core.Path.{_≡_};
 ghost use Rattle.arithmetic.specs.Checked.{squash as squashOf};
 ghost use Rattle.fluids.specs.Finite.{FinitePair};

@@ -14,13 +14,13 @@ use Rattle.refusals.specs.declared.Refusal.the-variants.{InputNotFinite, WorkNo
 use Rattle.refusals.specs.declared.Answer.the-variants.{Refused}
 use Rattle.arithmetic.specs.Checked.{real, _e-_, two⁻, minus, between, within}
 use Rattle.exponentials.specs.Exp.{expOf}
-use Rattle.elementary.specs.Ln.{digits, field, mField, mOf, eOf, lnWork, lnOf}
-use Rattle.elementary.specs.Root.{rootOf}
+use Rattle.logarithms.specs.Ln.{digits, field, mField, mOf, eOf, lnWork, lnOf}
+use Rattle.roots.specs.Root.{rootOf}
 use Rattle.arithmetic.specs.Answered.{answerFrom}
 use Rattle.elementary.specs.Calls.{calledOf, exponentialOf, logarithmOf, squareRootOf}
-use Rattle.elementary.proofs.Fields.{m-field-small}
+use Rattle.logarithms.proofs.Fields.{m-field-small}
 use Rattle.exponentials.proofs.Literals.{finite-700, finite-minus-700}
-use Rattle.elementary.proofs.Literals.{finite-1, finite-1e8}
+use Rattle.roots.proofs.Literals.{finite-1, finite-1e8}
 use Rattle.refusals.proofs.Tests.{by}
 use Rattle.refusals.proofs.Apart.{number≢refused}
 use Rattle.intervals.proofs.Fractions.{holds}

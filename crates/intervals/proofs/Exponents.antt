@@ -13,8 +13,8 @@ use lib.Ieee.Fits.{up-pos, down-pos}
 use lib.Ieee.Order.{round-mono}
 use lib.Ieee.Positive.{num, den, positive, den-pos, le→cross, cross→le, between}
 use Rattle.arithmetic.specs.Checked.{_e-_}
-use Rattle.elementary.specs.Ln.{Split}
-use Rattle.elementary.proofs.Split.{lt→cross, two-at-least}
+use Rattle.logarithms.specs.Ln.{Split}
+use Rattle.logarithms.proofs.ExactSplit.{lt→cross, two-at-least}
 use Rattle.arithmetic.proofs.Order.{lt→le}
 use Rattle.intervals.proofs.Rounding.{round-anti, signs-apart}
 use Rattle.intervals.proofs.Interval.{at}

@@ -7,13 +7,13 @@ use lib.Ieee.{Float, eq, le}
 use lib.Ieee.Scale.{finite}
 use Rattle.arithmetic.specs.Checked.{real, two⁻, minus, within, _⊗_}
 use Rattle.exponentials.specs.Exp.{expSteps, squared, expWork, expOf}
-use Rattle.elementary.specs.Ln.{lnOf}
-use Rattle.elementary.specs.Root.{rootSteps, rootOf}
+use Rattle.logarithms.specs.Ln.{lnOf}
+use Rattle.roots.specs.Root.{rootSteps, rootOf}
 use Rattle.elementary.specs.Power.{powerOf, _↑_}
 use Rattle.arithmetic.proofs.Forced.{forced}
 use Rattle.arithmetic.proofs.Within.{within-in}
 use Rattle.exponentials.proofs.Literals.{finite-700, finite-minus-700}
-use Rattle.elementary.proofs.Literals.{finite-1, finite-1e8}
+use Rattle.roots.proofs.Literals.{finite-1, finite-1e8}
 use Rattle.intervals.proofs.Fractions.{is-true}
 use Rattle.intervals.proofs.Interval.{Interval, In, point, at, hull, hull-left, hull-right, _▶_, computed, lies, lies-in}
 use Rattle.intervals.proofs.Sum.{_⊞_, _⟨⊕⟩_}

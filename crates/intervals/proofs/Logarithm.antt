@@ -9,10 +9,10 @@ use lib.Ieee.Fits.{and-l, and-r}
 use lib.Ieee.Positive.{num, den, positive, le→cross, between}
 use lib.Ieee.Scale.{finite}
 use Rattle.arithmetic.specs.Checked.{real, _e-_, two⁻}
-use Rattle.elementary.specs.Ln.{Split, mOf, eOf, lnSteps, lnWork, lnOf}
+use Rattle.logarithms.specs.Ln.{Split, mOf, eOf, lnSteps, lnWork, lnOf}
 use Rattle.arithmetic.proofs.Forced.{forced}
-use Rattle.elementary.proofs.Literals.{finite-075, finite-15, finite-two⁻60, finite-two60}
-use Rattle.elementary.proofs.Split.{split-holds, m-low, m-high}
+use Rattle.logarithms.proofs.Literals.{finite-075, finite-15, finite-two⁻60, finite-two60}
+use Rattle.logarithms.proofs.ExactSplit.{split-holds, m-low, m-high}
 use Rattle.arithmetic.proofs.Within.{within-in}
 use Rattle.intervals.proofs.Fractions.{is-true, order-of-test, test-of-order, Le-trans}
 use Rattle.intervals.proofs.Interval.{Interval, unknown, ends, Inside, In, anything, inside, interval, tested, result-in, unsquash-in, point, at, hull, hull-left, hull-right, _▶_, computed, lies, lies-in}

@@ -1,7 +1,7 @@
 -- What a test computed over intervals opens: to unfold `opened` is to unfold all that its line names.
 use lib.Ieee.{ofInt, round, le, lt, eq, neg, add, sub, mul, div, fits, toBits, ofBits}
 use Rattle.arithmetic.specs.Checked.{minus}
-use Rattle.elementary.specs.Ln.{mOf, eOf}
+use Rattle.logarithms.specs.Ln.{mOf, eOf}
 use Rattle.intervals.proofs.Interval.{interval, pick, lesser, greater, hull, across, fromOn, upTo, _▶_, lies}
 use Rattle.intervals.proofs.Sum.{_⊞_, _⊟_, negated}
 use Rattle.intervals.proofs.Product.{_⊠_, productBy, scaled, fourProducts}

@@ -3,7 +3,7 @@ use mathlib.Core.Path.{_≡_}
 use lib.Ieee.{Float}
 use Rattle.arithmetic.specs.Checked.{_⊘_}
 use Rattle.arithmetic.proofs.Forced.{forced}
-use Rattle.elementary.specs.Ln.{lnOf}
+use Rattle.logarithms.specs.Ln.{lnOf}
 use Rattle.fluids.specs.declared.Fluid.{Fluid}
 use Rattle.fluids.specs.Entries.{entryOf}
 use Rattle.kept.specs.Kept.{keptOf}

@@ -3,7 +3,7 @@ use mathlib.Core.List.{map}
 use lib.Ieee.{Float}
 use Rattle.arithmetic.specs.Checked.{real, _▷_, _⊖_, _⊗_, _⊘_}
 use Rattle.exponentials.specs.Exp.{expOf}
-use Rattle.elementary.specs.Ln.{lnOf}
+use Rattle.logarithms.specs.Ln.{lnOf}
 use Rattle.fluids.specs.declared.Term.{Term}
 use Rattle.fluids.specs.declared.Term.the-variants.{Plain, Damped, Bell}
 use Rattle.fluids.specs.declared.Fluid.{Fluid}

@@ -1,10 +1,10 @@
 // What the temperature alone decides of a fluid's terms: τ, ln τ, each row's power and each bell's part. For formulas.
 use arithmetic::squash;
-use elementary::ln;
 use exponentials::joined;
 use exponentials::seven_exps;
 use fluids::Fluid;
 use fluids::Term;
+use logarithms::ln;
 ghost use mathlib.Core.Path.{_≡_};
 ghost use mathlib.Core.List.{map};
 ghost use Prim.Native.Nat.{_+_, _≤_};

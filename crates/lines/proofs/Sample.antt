@@ -6,7 +6,7 @@ use lib.Ieee.{nan, binary64, toBits, add, sub, mul, div, neg, ofInt, round, ofBi
 use Rattle.words.specs.Word.{bytesOf}
 use Rattle.arithmetic.specs.Checked.{real, within, minus, _▷_, _⊕_, _⊖_, _⊗_, _⊘_}
 use Rattle.exponentials.specs.Exp.{expSteps, squared, expWork, expOf}
-use Rattle.elementary.specs.Ln.{mOf, eOf, lnSteps, lnWork, lnOf}
+use Rattle.logarithms.specs.Ln.{mOf, eOf, lnSteps, lnWork, lnOf}
 use Rattle.elementary.specs.Power.{_↑_}
 use Rattle.fluids.specs.R245ca.{r245ca}
 use Rattle.fluids.specs.Entries.{entryOf}

@@ -7,12 +7,8 @@ use Rattle.elementary.proofs.logarithm.Kinds as logarithm-kinds
 use Rattle.elementary.proofs.logarithm.Reads as logarithm-reads
 use Rattle.elementary.proofs.square_root.Kinds as square-root-kinds
 use Rattle.elementary.proofs.square_root.Reads as square-root-reads
-use Rattle.elementary.proofs.ln.Kinds as ln-kinds
-use Rattle.elementary.proofs.ln.Reads as ln-reads
 use Rattle.elementary.proofs.power.Kinds as power-kinds
 use Rattle.elementary.proofs.power.Reads as power-reads
-use Rattle.elementary.proofs.root.Kinds as root-kinds
-use Rattle.elementary.proofs.root.Reads as root-reads
 
 pub exponential-one : OneResult _ exponential-kinds.ps exponential-kinds.r exponential-reads.Learnt
 exponential-one κs a x y e f p q = p ∙ sym q
@@ -23,11 +19,5 @@ logarithm-one κs a x y e f p q = p ∙ sym q
 pub square-root-one : OneResult _ square-root-kinds.ps square-root-kinds.r square-root-reads.Learnt
 square-root-one κs a x y e f p q = p ∙ sym q
 
-pub ln-one : OneResult _ ln-kinds.ps ln-kinds.r ln-reads.Learnt
-ln-one κs a x y e f p q = p ∙ sym q
-
 pub power-one : OneResult _ power-kinds.ps power-kinds.r power-reads.Learnt
 power-one κs a x y e f p q = p ∙ sym q
-
-pub root-one : OneResult _ root-kinds.ps root-kinds.r root-reads.Learnt
-root-one κs a x y e f p q = p ∙ sym q

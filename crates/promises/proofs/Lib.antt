@@ -2,12 +2,15 @@ pub mod Refusals
 pub mod Words
 pub mod Arithmetic
 pub mod Exponentials
+pub mod Logarithms
+pub mod Roots
 pub mod Elementary
 pub mod Fluids
 pub mod Kept
 pub mod Sums
 pub mod Equation
 pub mod Ideal
+pub mod Stability
 pub mod Values
 pub mod Properties
 pub mod Saturation

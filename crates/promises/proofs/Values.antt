@@ -1,8 +1,6 @@
 -- Each public call of the crate `values` promises one outcome: its contract gives it by a definition of its arguments.
 use mathlib.Core.Path.{sym, _∙_}
 use Rattle.promises.specs.OneOutcome.{OneResult}
-use Rattle.values.proofs.stability_of.Kinds as stability-of-kinds
-use Rattle.values.proofs.stability_of.Reads as stability-of-reads
 use Rattle.values.proofs.energy_value.Kinds as energy-value-kinds
 use Rattle.values.proofs.energy_value.Reads as energy-value-reads
 use Rattle.values.proofs.enthalpy_value.Kinds as enthalpy-value-kinds
@@ -17,13 +15,6 @@ use Rattle.values.proofs.gibbs_value.Kinds as gibbs-value-kinds
 use Rattle.values.proofs.gibbs_value.Reads as gibbs-value-reads
 use Rattle.values.proofs.helmholtz_value.Kinds as helmholtz-value-kinds
 use Rattle.values.proofs.helmholtz_value.Reads as helmholtz-value-reads
-use Rattle.values.proofs.isobaric_value.Kinds as isobaric-value-kinds
-use Rattle.values.proofs.isobaric_value.Reads as isobaric-value-reads
-use Rattle.values.proofs.sound_speed_value.Kinds as sound-speed-value-kinds
-use Rattle.values.proofs.sound_speed_value.Reads as sound-speed-value-reads
-
-pub stability-of-one : OneResult _ stability-of-kinds.ps stability-of-kinds.r stability-of-reads.Learnt
-stability-of-one κs a x y e f p q = p ∙ sym q
 
 pub energy-value-one : OneResult _ energy-value-kinds.ps energy-value-kinds.r energy-value-reads.Learnt
 energy-value-one κs a x y e f p q = p ∙ sym q
@@ -45,9 +36,3 @@ gibbs-value-one κs a x y e f p q = p ∙ sym q
 
 pub helmholtz-value-one : OneResult _ helmholtz-value-kinds.ps helmholtz-value-kinds.r helmholtz-value-reads.Learnt
 helmholtz-value-one κs a x y e f p q = p ∙ sym q
-
-pub isobaric-value-one : OneResult _ isobaric-value-kinds.ps isobaric-value-kinds.r isobaric-value-reads.Learnt
-isobaric-value-one κs a x y e f p q = p ∙ sym q
-
-pub sound-speed-value-one : OneResult _ sound-speed-value-kinds.ps sound-speed-value-kinds.r sound-speed-value-reads.Learnt
-sound-speed-value-one κs a x y e f p q = p ∙ sym q

@@ -7,8 +7,8 @@ use Rattle.arithmetic.specs.Checked.{between}
 use Rattle.fluids.specs.declared.Fluid.{Fluid}
 use Rattle.fluids.specs.Entries.{entryOf}
 use Rattle.equation.specs.declared.state.State.{State}
-use Rattle.values.specs.declared.Stability.{Stability}
-use Rattle.values.specs.Values.{stabilityOf}
+use Rattle.stability.specs.declared.Stability.{Stability}
+use Rattle.stability.specs.Stability.{stabilityOf}
 use Rattle.inputs.specs.Inputs.{statePermit}
 use Rattle.inputs.proofs.Passed.{state-passed}
 use Rattle.properties.specs.Calls.{stableOf, stabilityPermit}

@@ -15,7 +15,8 @@ use Rattle.properties.specs.declared.Property.{Property}
 use Rattle.properties.specs.declared.Property.the-variants.{Pressure, Energy, Enthalpy, IsochoricHeatCapacity, Entropy, GibbsEnergy, HelmholtzEnergy, IsobaricHeatCapacity, SoundSpeed}
 use Rattle.equation.specs.declared.state.State.{State}
 use Rattle.equation.specs.State.{stateAt, pressureValue}
-use Rattle.values.specs.Values.{«V», K, Q, energyValue, enthalpyValue, isochoricValue, entropyValue, gibbsValue, helmholtzValue, isobaricValue, soundSpeedValue}
+use Rattle.stability.specs.Stability.{«V», K, Q, isobaricValue, soundSpeedValue}
+use Rattle.values.specs.Values.{energyValue, enthalpyValue, isochoricValue, entropyValue, gibbsValue, helmholtzValue}
 
 -- a density of minus zero is worked as +0
 unfoldable pub workedDensity : Float → Float

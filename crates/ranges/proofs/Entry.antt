@@ -12,7 +12,8 @@ use Rattle.fluids.specs.Entry.{Entry}
 use Rattle.fluids.specs.Entries.{entryOf}
 use Rattle.equation.specs.State.{stateAt, pressureValue}
 use Rattle.equation.proofs.Entry.{state-is}
-use Rattle.values.specs.Values.{«V», K, Q, energyValue, enthalpyValue, isochoricValue, entropyValue, gibbsValue, helmholtzValue, isobaricValue}
+use Rattle.stability.specs.Stability.{«V», K, Q, isobaricValue}
+use Rattle.values.specs.Values.{energyValue, enthalpyValue, isochoricValue, entropyValue, gibbsValue, helmholtzValue}
 use Rattle.arithmetic.proofs.Within.{between-finite}
 use Rattle.intervals.proofs.Interval.{Interval, ends, In, interval, tested, point, at, known, in-known}
 use Rattle.intervals.proofs.Quotient.{_÷_, _⟨⊘⟩_}

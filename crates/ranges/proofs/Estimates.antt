@@ -11,7 +11,7 @@ use lib.Ieee.{Float, nan, binary64, fits, ofInt, round, le, lt, eq, neg, add}
 use lib.Ieee.Fits.{and-l, and-r, neg-fits}
 use lib.Ieee.Scale.{finite}
 use Rattle.arithmetic.specs.Checked.{real, two⁻, _⊖_, _⊘_}
-use Rattle.elementary.specs.Ln.{lnOf}
+use Rattle.logarithms.specs.Ln.{lnOf}
 use Rattle.arithmetic.proofs.Forced.{forced}
 use Rattle.arithmetic.proofs.Order as tests
 use Rattle.fluids.specs.declared.Estimate.{Estimate}

@@ -11,7 +11,7 @@ use lib.Ieee.{Float, nan, binary64, fits, lt, ofInt, round}
 use lib.Ieee.Scale.{finite}
 use lib.Ieee.Fits.{ofInt-fits}
 use Rattle.arithmetic.specs.Checked.{real, squash, _⊗_, _⊘_}
-use Rattle.elementary.specs.Ln.{lnOf}
+use Rattle.logarithms.specs.Ln.{lnOf}
 use Rattle.elementary.specs.Power.{_↑_}
 use Rattle.arithmetic.proofs.Forced.{forced}
 use Rattle.arithmetic.proofs.Operations.{⊘-squashed}

@@ -7,10 +7,10 @@ use lib.ListN.{getD, length}
 use lib.Ieee.{Float, nan, binary64, round, fits, le}
 use lib.Ieee.Scale.{finite}
 use Rattle.arithmetic.specs.Checked.{real, two⁻, _⊕_, _⊖_, _⊗_, _⊘_}
-use Rattle.elementary.specs.Ln.{lnOf}
+use Rattle.logarithms.specs.Ln.{lnOf}
 use Rattle.arithmetic.proofs.Forced.{forced}
 use Rattle.arithmetic.proofs.Operations.{⊕-squashed}
-use Rattle.elementary.proofs.Literals.{finite-two⁻60}
+use Rattle.logarithms.proofs.Literals.{finite-two⁻60}
 use Rattle.fluids.specs.declared.Pair.{Pair}
 use Rattle.fluids.specs.declared.Fluid.{Fluid}
 use Rattle.fluids.specs.Entry.{Entry}
@@ -19,7 +19,8 @@ use Rattle.ideal.specs.Ideal.{part0, part1, part2, totalTo, totalOf, I0, I1, I2
 use Rattle.equation.specs.declared.state.State.{State as Worked}
 use Rattle.equation.specs.State.{stateAt, pressureValue}
 use Rattle.equation.proofs.Entry.{stateBy, state-is}
-use Rattle.values.specs.Values.{i0, i1, «V», K, Q, stabilityOf, isobaricFrom, energyValue, enthalpyValue, isochoricValue, entropyValue, gibbsOverRT, gibbsValue, helmholtzValue, isobaricValue}
+use Rattle.stability.specs.Stability.{«V», K, Q, stabilityOf, isobaricFrom, isobaricValue}
+use Rattle.values.specs.Values.{i0, i1, energyValue, enthalpyValue, isochoricValue, entropyValue, gibbsOverRT, gibbsValue, helmholtzValue}
 use Rattle.intervals.proofs.Representable.{difference-fits, quotient-fits}
 use Rattle.intervals.proofs.Interval.{Interval, In, point, at, fromOn, from-on-in, _▶_, computed}
 use Rattle.intervals.proofs.Sum.{_⊞_, _⊟_, negated, _⟨⊕⟩_, _⟨⊖⟩_, ⟨minus⟩}

@@ -1,13 +1,13 @@
 // The estimates of 01, term by term. ln θ is worked once.
-use elementary::ln;
 use exponentials::exp;
 use fluids::Curve;
 use fluids::Estimate;
 use fluids::Fluid;
+use logarithms::ln;
 ghost use mathlib.Core.Path.{_≡_};
 ghost use Prim.Native.Nat.{_+_, _≤_};
 ghost use Rattle.arithmetic.specs.Checked.{squash};
-ghost use Rattle.elementary.specs.Ln.{lnOf};
+ghost use Rattle.logarithms.specs.Ln.{lnOf};
 ghost use Rattle.elementary.specs.Power.{powerOf};
 ghost use Rattle.fluids.specs.Finite.{Finite, FiniteEstimate};
 ghost use Rattle.saturation.specs.Estimates as Estimates;

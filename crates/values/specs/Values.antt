@@ -1,19 +1,11 @@
--- 01, "With V, K, Q": the properties of a state, `nan` where 12 is owed; the pressure is equation/specs/State.antt's.
+-- 01, "With V, K, Q": the properties of a state that need no K and no Q, `nan` where 12 is owed; the pressure is equation/specs/State.antt's, the other two are
+-- stability/specs/Stability.antt's.
 use lib.Ieee.{Float}
-use Rattle.arithmetic.specs.Checked.{real, squash, _⊕_, _⊖_, _⊗_, _⊘_}
-use Rattle.elementary.specs.Root.{rootOf}
+use Rattle.arithmetic.specs.Checked.{real, _⊕_, _⊖_, _⊗_}
 use Rattle.fluids.specs.Entries.{entryOf}
 use Rattle.equation.specs.declared.state.State.{State}
-use Rattle.ideal.specs.Ideal.{I0, I1, I2}
-use Rattle.values.specs.declared.Stability.{Stability}
-
--- R·(V + K·K/Q); a divisor that is not finite counts as `nan`
-unfoldable pub isobaricFrom : Stability → Float
-isobaricFrom w = entryOf (w .fluid) .R ⊗ (w .v ⊕ w .k ⊗ w .k ⊘ squash (w .q))
-
--- root((R·T)/M·(Q + K·K/V))
-unfoldable pub soundSpeedFrom : Stability → Float
-soundSpeedFrom w = rootOf ((entryOf (w .fluid) .R ⊗ w .t) ⊘ entryOf (w .fluid) .M ⊗ (w .q ⊕ w .k ⊗ w .k ⊘ squash (w .v)))
+use Rattle.ideal.specs.Ideal.{I0, I1}
+use Rattle.stability.specs.Stability.{«V»}
 
 module _ (s : State) where
   -- the ideal part
@@ -22,19 +14,6 @@ module _ (s : State) where
 
   unfoldable pub i1 : Float
   i1 = I1 (s .fluid) (s .t) (s .tau)
-
-  -- V = I2 − T2, K = 1 + S1 − ST, Q = 1 + 2·S1 + S2
-  unfoldable pub «V» : Float
-  «V» = I2 (s .fluid) (s .t) ⊖ s .sums .t2
-
-  unfoldable pub K : Float
-  K = real 1 ⊕ s .sums .s1 ⊖ s .sums .st
-
-  unfoldable pub Q : Float
-  Q = real 1 ⊕ real 2 ⊗ s .sums .s1 ⊕ s .sums .s2
-
-  unfoldable pub stabilityOf : Stability
-  stabilityOf = record { fluid = s .fluid; t = s .t; v = «V»; k = K; q = Q }
 
   -- (R·T)·(I1 + T1)
   unfoldable pub energyValue : Float
@@ -46,7 +25,7 @@ module _ (s : State) where
 
   -- R·V
   unfoldable pub isochoricValue : Float
-  isochoricValue = entryOf (s .fluid) .R ⊗ «V»
+  isochoricValue = entryOf (s .fluid) .R ⊗ «V» s
 
   -- R·(I1 + T1 − I0 − S0)
   unfoldable pub entropyValue : Float
@@ -63,11 +42,3 @@ module _ (s : State) where
   -- (R·T)·(I0 + S0)
   unfoldable pub helmholtzValue : Float
   helmholtzValue = (entryOf (s .fluid) .R ⊗ s .t) ⊗ (i0 ⊕ s .sums .s0)
-
-  -- R·(V + K·K/Q)
-  unfoldable pub isobaricValue : Float
-  isobaricValue = isobaricFrom stabilityOf
-
-  -- root((R·T)/M·(Q + K·K/V))
-  unfoldable pub soundSpeedValue : Float
-  soundSpeedValue = soundSpeedFrom stabilityOf

@@ -3,7 +3,7 @@ use mathlib.Core.Path.{_≡_, sym, _∙_, ap}
 use borrow.Author.Needs.{needs}
 use lib.Ieee.{Float}
 use Rattle.arithmetic.proofs.Operations.{squash-add, squash-sub, squash-mul, ⊗-left, ⊗-right}
-use Rattle.elementary.proofs.Ranges.{ln-squashed}
+use Rattle.logarithms.proofs.Ranges.{ln-squashed}
 use Rattle.arithmetic.proofs.Literals.{lit-1, squash-1}
 use Rattle.fluids.specs.declared.Constants.{Constants}
 use Rattle.fluids.proofs.Sound.{sound}

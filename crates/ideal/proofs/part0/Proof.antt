@@ -3,10 +3,10 @@ use mathlib.Core.Path.{_≡_, sym, _∙_}
 use borrow.Author.Needs.{needs}
 use Rattle.arithmetic.specs.Checked.{real, minus, _⊖_, _⊘_}
 use Rattle.exponentials.specs.Exp.{expOf}
-use Rattle.elementary.specs.Ln.{lnOf}
+use Rattle.logarithms.specs.Ln.{lnOf}
 use Rattle.arithmetic.proofs.Operations.{squash-mul, squash-sub, squash-neg, squash-over}
 use Rattle.exponentials.proofs.ExpRange.{exp-squash, exp-squashed}
-use Rattle.elementary.proofs.Ranges.{ln-squash, ln-squashed}
+use Rattle.logarithms.proofs.Ranges.{ln-squash, ln-squashed}
 use Rattle.arithmetic.proofs.Literals.{lit-1, squash-1}
 use Rattle.ideal.specs.Ideal.{part0}
 use Rattle.ideal.proofs.part0.Statement.{statement}

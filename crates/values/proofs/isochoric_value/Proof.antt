@@ -3,7 +3,8 @@ use mathlib.Core.Path.{_∙_, ap}
 use borrow.Author.Needs.{needs}
 use Rattle.arithmetic.proofs.Operations.{squash-add, squash-sub, squash-mul, ⊕-left, ⊕-right, ⊖-left, ⊖-right, ⊗-left, ⊗-right}
 use Rattle.fluids.specs.declared.Constants.{Constants}
-use Rattle.values.specs.Values.{isochoricValue, «V»}
+use Rattle.stability.specs.Stability.{«V»}
+use Rattle.values.specs.Values.{isochoricValue}
 use Rattle.values.proofs.isochoric_value.Statement.{statement}
 use Rattle.values.proofs.isochoric_value.Tie as tie
 

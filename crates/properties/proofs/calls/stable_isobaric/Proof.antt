@@ -3,7 +3,7 @@ use mathlib.Core.Path.{sym, _∙_, ap}
 use borrow.Author.Needs.{needs}
 use Rattle.refusals.proofs.Needed.{permitted-granted, permitted-denied}
 use Rattle.arithmetic.specs.Answered.{answerFrom}
-use Rattle.values.specs.Values.{isobaricFrom, isobaricValue}
+use Rattle.stability.specs.Stability.{isobaricFrom, isobaricValue}
 use Rattle.properties.proofs.Permits.{stable-at}
 use Rattle.properties.proofs.calls.stable_isobaric.Statement.{statement}
 use Rattle.properties.proofs.calls.stable_isobaric.Tie as tie

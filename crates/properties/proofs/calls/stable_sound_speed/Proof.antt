@@ -3,7 +3,7 @@ use mathlib.Core.Path.{sym, _∙_, ap}
 use borrow.Author.Needs.{needs}
 use Rattle.refusals.proofs.Needed.{permitted-granted, permitted-denied}
 use Rattle.arithmetic.specs.Answered.{answerFrom}
-use Rattle.values.specs.Values.{soundSpeedFrom, soundSpeedValue}
+use Rattle.stability.specs.Stability.{soundSpeedFrom, soundSpeedValue}
 use Rattle.properties.proofs.Permits.{stable-at}
 use Rattle.properties.proofs.calls.stable_sound_speed.Statement.{statement}
 use Rattle.properties.proofs.calls.stable_sound_speed.Tie as tie

@@ -4,7 +4,7 @@ use mathlib.Core.Bool.{true, false}
 use lib.Ieee.{Float, binary64, ofBits, eq}
 use Rattle.arithmetic.specs.Checked.{real, _⊗_}
 use Rattle.exponentials.specs.Exp.{expOf}
-use Rattle.elementary.specs.Ln.{lnOf}
+use Rattle.logarithms.specs.Ln.{lnOf}
 use Rattle.elementary.specs.Power.{powerOf}
 use Rattle.arithmetic.proofs.Literals.{lit-0}
 use Rattle.exponentials.proofs.ExpRange.{exp-squash}

@@ -1,0 +1,5 @@
+pub mod Literals
+pub mod Ranges
+pub mod Turns
+pub mod Fields
+pub mod ExactSplit
