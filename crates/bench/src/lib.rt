@@ -1,6 +1,4 @@
 // The functions that bench/ times and the tests call, behind C's calling convention.
-use density::Found;
-use density::Side;
 use density::plain;
 use density::quick;
 use elementary::ln;
@@ -18,6 +16,8 @@ use properties::isobaric_heat_capacity;
 use properties::pressure;
 use properties::sound_speed;
 use refusals::Answer;
+use search::Found;
+use search::Side;
 ghost use mathlib.Core.Path.{_≡_};
 ghost use Rattle.exponentials.specs.Exp.{expOf};
 ghost use Rattle.elementary.specs.Ln.{lnOf};

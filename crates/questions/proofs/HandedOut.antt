@@ -24,7 +24,7 @@ use Rattle.inputs.specs.Inputs.{statePermit}
 use Rattle.search.specs.declared.Located.{Located}
 use Rattle.search.specs.declared.Located.the-variants.{At, Refused}
 use Rattle.search.specs.Plain.{atEnds}
-use Rattle.density.specs.declared.Side.{Side}
+use Rattle.search.specs.declared.Side.{Side}
 use Rattle.steps.specs.Steps.{stepDensityOf}
 use Rattle.inputs.specs.Inputs.{searchPermit}
 use Rattle.density.specs.State.{foundStateOf}

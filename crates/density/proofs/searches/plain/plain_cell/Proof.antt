@@ -1,7 +1,7 @@
 -- `plain_cell` meets its contract, by the side. Assumes nothing.
 use mathlib.Core.Path.{sym, ap, _∙_}
 use Rattle.search.specs.Plain.{atEnds}
-use Rattle.density.specs.declared.Side.{Side}
+use Rattle.search.specs.declared.Side.{Side}
 use Rattle.steps.specs.Steps.{stepPressureOf}
 use Rattle.density.specs.Calls.{plainCellOf}
 use borrow.Author.Needs.{needs}

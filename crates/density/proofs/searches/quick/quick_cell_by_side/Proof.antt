@@ -2,7 +2,7 @@
 use mathlib.Core.Path.{sym, ap, _∙_}
 use Rattle.search.specs.Plain.{atEnds}
 use Rattle.search.specs.Quick.{quickCell}
-use Rattle.density.specs.declared.Side.{Side}
+use Rattle.search.specs.declared.Side.{Side}
 use Rattle.steps.specs.Steps.{stepPressureOf}
 use Rattle.density.specs.Calls.{entriesBy}
 use borrow.Author.Needs.{needs}
