@@ -45,7 +45,8 @@ use Rattle.density.specs.Granted.{Question}
 use Rattle.density.specs.State.{stateWordOf, foundStateOf}
 use Rattle.steps.specs.Steps.{stepDensityOf, stepPressureOf}
 use Rattle.steps.specs.Steps.{pressuresOf}
-use Rattle.density.specs.Calls.{plainStepOf, plainOf, entriesBy, quickOf}
+use Rattle.density.specs.Calls.{plainStepOf, plainOf, quickOf}
+use Rattle.search.specs.BySide.{entriesBy}
 use Rattle.search.specs.Searches.{quickStep}
 use Rattle.preparation.specs.Prepare.{prepareOf}
 use Rattle.steps.proofs.StepExact.{step-exact}

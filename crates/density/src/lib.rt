@@ -2,7 +2,6 @@
 //
 // Units: K, Pa, mol/dm³. A search answers a density and a word, or a numbered refusal.
 mod calls;
-mod searches;
 mod state;
 
 pub use calls::plain;
