@@ -12,10 +12,10 @@ use Rattle.arithmetic.specs.Checked.{real}
 use Rattle.fluids.specs.declared.Fluid.the-variants.{R245ca}
 use Rattle.kept.specs.Kept.{keptOf}
 use Rattle.equation.specs.State.{pressureAt}
-use Rattle.density.specs.declared.Side.{Side}
-use Rattle.density.specs.declared.Side.the-variants.{FromBelow, FromAbove}
-use Rattle.density.specs.declared.Found.{Found}
-use Rattle.density.specs.declared.Found.the-variants.{State}
+use Rattle.search.specs.declared.Side.{Side}
+use Rattle.search.specs.declared.Side.the-variants.{FromBelow, FromAbove}
+use Rattle.search.specs.declared.Found.{Found}
+use Rattle.search.specs.declared.Found.the-variants.{State}
 
 -- the number of an answer, and `nan` where it is a refusal
 abbrev pub numberOf : Answer → Float

@@ -1,6 +1,4 @@
 // The functions that bench/ times and the tests call, behind C's calling convention.
-use density::Found;
-use density::Side;
 use density::plain;
 use density::quick;
 use equation::pressure_at;
@@ -18,6 +16,8 @@ use properties::pressure;
 use properties::sound_speed;
 use refusals::Answer;
 use roots::root;
+use search::Found;
+use search::Side;
 ghost use mathlib.Core.Path.{_≡_};
 ghost use Rattle.exponentials.specs.Exp.{expOf};
 ghost use Rattle.logarithms.specs.Ln.{lnOf};

@@ -22,12 +22,12 @@ use Rattle.equation.specs.State.{stateAt, pressureValue}
 use Rattle.values.specs.Values.{energyValue, enthalpyValue, isochoricValue}
 use Rattle.saturation.specs.Estimates.{pressureEstimate, liquidEstimate, vapourEstimate}
 use Rattle.saturation.specs.Calls.{saturationPressureOf, saturatedLiquidOf, saturatedVapourOf}
-use Rattle.density.specs.declared.Side.{Side}
+use Rattle.search.specs.declared.Side.{Side}
 use Rattle.density.specs.Calls.{plainOf}
 use Rattle.preparation.specs.Prepare.{prepareOf}
 use Rattle.outcomes.specs.Codes.{foundCodeOf, preparedCodeOf}
-use Rattle.density.specs.declared.Found.{Found}
-use Rattle.density.specs.declared.Found.the-variants.{State}
+use Rattle.search.specs.declared.Found.{Found}
+use Rattle.search.specs.declared.Found.the-variants.{State}
 use Rattle.refusals.specs.Code.{OneOf}
 use Rattle.refusals.proofs.InOrder.{codesIn, denied-code, by-permit}
 use Rattle.inputs.specs.Inputs.{topTest, roomOf, stateTests, saturationTests, askedTests, prepareTests, statePermit, saturationPermit, searchPermit, preparePermit}

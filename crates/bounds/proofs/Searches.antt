@@ -33,19 +33,20 @@ use Rattle.search.proofs.GreatestAndLeast.{Numbers}
 use Rattle.search.specs.Enclosed.{NoCellEncloses}
 use Rattle.search.proofs.ExactlyEight as any
 use Rattle.refusals.proofs.Tests.{clash, and-passed}
-use Rattle.density.specs.declared.Side.{Side}
-use Rattle.density.specs.declared.Side.the-variants.{FromBelow, FromAbove}
-use Rattle.density.specs.declared.Word.{Word}
-use Rattle.density.specs.declared.Found.{Found}
-use Rattle.density.specs.declared.Found.the-variants.{State}
-use Rattle.preparation.specs.declared.Prepared.{Prepared}
-use Rattle.preparation.specs.declared.Prepared.the-variants.{Ready}
+use Rattle.search.specs.declared.Side.{Side}
+use Rattle.search.specs.declared.Side.the-variants.{FromBelow, FromAbove}
+use Rattle.search.specs.declared.Word.{Word}
+use Rattle.search.specs.declared.Found.{Found}
+use Rattle.search.specs.declared.Found.the-variants.{State}
+use Rattle.search.specs.declared.Prepared.{Prepared}
+use Rattle.search.specs.declared.Prepared.the-variants.{Ready}
 use Rattle.inputs.specs.Inputs.{temperatureTest, topTest, roomOf, prepareTests, searchTests, searchPermit, preparePermit}
 use Rattle.density.specs.Granted.{Question}
 use Rattle.density.specs.State.{stateWordOf, foundStateOf}
 use Rattle.steps.specs.Steps.{stepDensityOf, stepPressureOf}
 use Rattle.steps.specs.Steps.{pressuresOf}
-use Rattle.density.specs.Calls.{plainStepOf, plainOf, entriesBy, quickOf}
+use Rattle.density.specs.Calls.{plainStepOf, plainOf, quickOf}
+use Rattle.search.specs.BySide.{entriesBy}
 use Rattle.search.specs.Searches.{quickStep}
 use Rattle.preparation.specs.Prepare.{prepareOf}
 use Rattle.steps.proofs.StepExact.{step-exact}

@@ -25,12 +25,12 @@ use Rattle.inputs.specs.Inputs.{statePermit, potentialPermit}
 use Rattle.saturation.specs.Calls.{saturationPressureOf, saturatedLiquidOf, saturatedVapourOf}
 use Rattle.search.specs.Plain.{endStep, atEnds}
 use Rattle.search.specs.Enclosed.{NoCellEncloses}
-use Rattle.density.specs.declared.Side.{Side}
-use Rattle.density.specs.declared.Side.the-variants.{FromBelow, FromAbove}
-use Rattle.density.specs.declared.Word.{Word}
-use Rattle.density.specs.declared.Found.{Found}
-use Rattle.density.specs.declared.Found.the-variants.{State}
-use Rattle.preparation.specs.declared.Prepared.the-variants.{Ready}
+use Rattle.search.specs.declared.Side.{Side}
+use Rattle.search.specs.declared.Side.the-variants.{FromBelow, FromAbove}
+use Rattle.search.specs.declared.Word.{Word}
+use Rattle.search.specs.declared.Found.{Found}
+use Rattle.search.specs.declared.Found.the-variants.{State}
+use Rattle.search.specs.declared.Prepared.the-variants.{Ready}
 use Rattle.inputs.specs.Inputs.{roomOf, searchPermit, preparePermit}
 use Rattle.steps.specs.Steps.{pressuresOf}
 use Rattle.density.specs.Calls.{plainOf, quickOf}

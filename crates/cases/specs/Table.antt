@@ -16,9 +16,9 @@ use Rattle.search.specs.declared.Located.the-variants.{At}
 use Rattle.search.specs.Plain.{cellFromBelow, cellFromAbove}
 use Rattle.search.specs.Lists.{greatest, least, greatestList, leastList}
 use Rattle.search.specs.Quick.{quickCell}
-use Rattle.density.specs.declared.Side.{Side}
-use Rattle.density.specs.declared.Found.{Found}
-use Rattle.preparation.specs.declared.Prepared.{Prepared}
+use Rattle.search.specs.declared.Side.{Side}
+use Rattle.search.specs.declared.Found.{Found}
+use Rattle.search.specs.declared.Prepared.{Prepared}
 use Rattle.density.specs.Calls.{plainOf, quickOf}
 use Rattle.preparation.specs.Prepare.{prepareOf}
 

@@ -5,8 +5,8 @@ use lib.Ieee.{Float}
 use Rattle.fluids.specs.declared.Fluid.{Fluid}
 use Rattle.search.specs.Plain.{endStep}
 use Rattle.search.specs.Enclosed.{Encloses}
-use Rattle.density.specs.declared.Side.{Side}
-use Rattle.density.specs.declared.Word.{Word}
+use Rattle.search.specs.declared.Side.{Side}
+use Rattle.search.specs.declared.Word.{Word}
 use Rattle.density.specs.State.{stateWordOf}
 use Rattle.steps.specs.Steps.{stepDensityOf}
 use Rattle.steps.specs.Steps.{pressuresOf}

@@ -6,7 +6,7 @@ use lib.ListN.{length, replicate}
 use lib.Ieee.{Float}
 use Rattle.fluids.specs.declared.Fluid.{Fluid}
 use Rattle.arithmetic.specs.Checked.{real}
-use Rattle.density.specs.declared.Side.{Side}
+use Rattle.search.specs.declared.Side.{Side}
 use Rattle.preparation.specs.Prepare.{greatestAfter, leastAfter}
 use Rattle.density.specs.Calls.{quickOf}
 

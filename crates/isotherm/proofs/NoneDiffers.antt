@@ -8,10 +8,10 @@ use borrow.Author.Tests.{eq-eqb}
 use lib.Ieee.{Float}
 use Rattle.fluids.specs.declared.Fluid.the-variants.{R245ca}
 use Rattle.arithmetic.specs.Checked.{real}
-use Rattle.density.specs.declared.Side.{Side}
-use Rattle.density.specs.declared.Side.the-variants.{FromBelow, FromAbove}
-use Rattle.density.specs.declared.Found.{Found}
-use Rattle.preparation.specs.declared.Prepared.the-variants.{Ready}
+use Rattle.search.specs.declared.Side.{Side}
+use Rattle.search.specs.declared.Side.the-variants.{FromBelow, FromAbove}
+use Rattle.search.specs.declared.Found.{Found}
+use Rattle.search.specs.declared.Prepared.the-variants.{Ready}
 use Rattle.preparation.specs.Prepare.{prepareOf, greatestAfter, leastAfter}
 use Rattle.outcomes.specs.Codes.{foundCodeOf}
 use Rattle.outcomes.specs.Parts.{foundBitsOf, foundWordOf}

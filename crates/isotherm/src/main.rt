@@ -4,8 +4,8 @@ mod pairs;
 
 use libc::STDOUT_FILENO;
 use pairs::pairs_that_differ;
-use preparation::Prepared;
 use preparation::prepare;
+use search::Prepared;
 
 fn main() {
     let mut greatest = [0.0; 1665];

@@ -1,11 +1,11 @@
 // The pairs of answers that differ between the plain search and the quick one.
-use density::Found;
-use density::Side;
 use density::plain;
 use density::quick;
 use outcomes::found_bits;
 use outcomes::found_code;
 use outcomes::found_word;
+use search::Found;
+use search::Side;
 ghost use mathlib.Core.Path.{_≡_};
 ghost use Prim.Native.Nat.{_≤_};
 ghost use Rattle.isotherm.specs.Pairs.{sameOf, differsAt, differing};

@@ -3,10 +3,10 @@ use Prim.Native.Nat.{ℕ}
 use Rattle.refusals.specs.Code.{codeOf}
 use Rattle.refusals.specs.declared.Answer.{Answer}
 use Rattle.refusals.specs.declared.Answer.the-variants.{Number}
-use Rattle.density.specs.declared.Found.{Found}
-use Rattle.density.specs.declared.Found.the-variants.{State}
-use Rattle.preparation.specs.declared.Prepared.{Prepared}
-use Rattle.preparation.specs.declared.Prepared.the-variants.{Ready}
+use Rattle.search.specs.declared.Found.{Found}
+use Rattle.search.specs.declared.Found.the-variants.{State}
+use Rattle.search.specs.declared.Prepared.{Prepared}
+use Rattle.search.specs.declared.Prepared.the-variants.{Ready}
 
 abbrev pub foundCodeOf : Found → ℕ
 foundCodeOf (State density word) = 0

@@ -1,10 +1,10 @@
 -- A search's outcome as numbers, beside its code: the bits of the density, and a number for the word.
 use Prim.Native.Nat.{ℕ, _-_, _^_}
 use lib.Ieee.{binary64, toBits}
-use Rattle.density.specs.declared.Word.{Word}
-use Rattle.density.specs.declared.Word.the-variants.{Fluid, Vapour, Liquid}
-use Rattle.density.specs.declared.Found.{Found}
-use Rattle.density.specs.declared.Found.the-variants.{State}
+use Rattle.search.specs.declared.Word.{Word}
+use Rattle.search.specs.declared.Word.the-variants.{Fluid, Vapour, Liquid}
+use Rattle.search.specs.declared.Found.{Found}
+use Rattle.search.specs.declared.Found.the-variants.{State}
 
 -- the bits of the density; all ones where there is none
 abbrev pub foundBitsOf : Found → ℕ

@@ -1,9 +1,9 @@
 // What a search or a preparation ends with, as numbers: its code, a search's density as an answer or as bits, and its word.
-use density::Found;
-use density::Word;
-use preparation::Prepared;
 use refusals::Answer;
 use refusals::code;
+use search::Found;
+use search::Prepared;
+use search::Word;
 use words::bits;
 ghost use mathlib.Core.Path.{_≡_};
 ghost use Rattle.outcomes.specs.Codes.{foundCodeOf, preparedCodeOf, foundAnswerOf};

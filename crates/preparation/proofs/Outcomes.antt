@@ -18,8 +18,8 @@ use Rattle.search.specs.Quick.{entriesOf}
 use Rattle.search.proofs.Filling.{filled-same, filled-over, filled-entry}
 use Rattle.search.proofs.GreatestAndLeast.{greatest-same, least-same}
 use Rattle.refusals.specs.declared.Permit.the-variants.{Granted, Denied}
-use Rattle.preparation.specs.declared.Prepared.{Prepared}
-use Rattle.preparation.specs.declared.Prepared.the-variants.{Ready}
+use Rattle.search.specs.declared.Prepared.{Prepared}
+use Rattle.search.specs.declared.Prepared.the-variants.{Ready}
 use Rattle.steps.specs.Steps.{stepPressureOf}
 use Rattle.inputs.specs.Inputs.{roomOf, preparePermit}
 use Rattle.preparation.specs.Filled.{Filled}

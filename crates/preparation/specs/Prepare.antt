@@ -9,8 +9,8 @@ use Rattle.search.specs.Plain.{atEnds}
 use Rattle.search.specs.Lists.{someNotFinite, greatestList, leastList}
 use Rattle.refusals.specs.declared.Permit.{Permit}
 use Rattle.refusals.specs.declared.Permit.the-variants.{Granted, Denied}
-use Rattle.preparation.specs.declared.Prepared.{Prepared}
-use Rattle.preparation.specs.declared.Prepared.the-variants.{Ready}
+use Rattle.search.specs.declared.Prepared.{Prepared}
+use Rattle.search.specs.declared.Prepared.the-variants.{Ready}
 use Rattle.fluids.specs.declared.Fluid.{Fluid}
 use Rattle.inputs.specs.Inputs.{roomOf, preparePermit}
 use Rattle.steps.specs.Steps.{pressuresOf}

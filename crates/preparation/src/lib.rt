@@ -9,6 +9,7 @@ use lists::sweep_down;
 use lists::sweep_up;
 use refusals::Permit;
 use refusals::Refusal;
+use search::Prepared;
 use steps::end_pressure;
 ghost use mathlib.Core.Path.{_≡_};
 ghost use Prim.Native.Nat.{_+_, _<_, _≤_};
@@ -21,12 +22,6 @@ ghost use Rattle.refusals.specs.declared.Permit.the-variants.{Granted};
 ghost use Rattle.steps.specs.Steps.{stepPressureOf};
 ghost use Rattle.preparation.specs.Filled.{Filled};
 ghost use Rattle.preparation.specs.Prepare.{preparedBy, prepareOf, greatestAfter, leastAfter};
-
-// What a preparation gives: the lists are ready, or a refusal.
-pub enum Prepared {
-    Ready,
-    Refused(Refusal),
-}
 
 // The pressures at the ends 0..c into both lists; false at the first that gives 12.
 fn fill(kept: Kept, c: usize, greatest: &mut [f64], least: &mut [f64]) -> bool

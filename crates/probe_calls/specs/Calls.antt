@@ -11,7 +11,7 @@ use Rattle.elementary.specs.Calls.{exponentialOf, logarithmOf, squareRootOf}
 use Rattle.fluids.specs.declared.Fluid.{Fluid}
 use Rattle.properties.specs.Calls.{pressureOf, energyOf, enthalpyOf, isochoricOf, entropyOf, gibbsOf, helmholtzOf, isobaricOf, soundSpeedOf}
 use Rattle.saturation.specs.Calls.{saturationPressureOf, saturatedLiquidOf, saturatedVapourOf}
-use Rattle.density.specs.declared.Side.the-variants.{FromBelow, FromAbove}
+use Rattle.search.specs.declared.Side.the-variants.{FromBelow, FromAbove}
 use Rattle.questions.specs.Asked.{densityAt}
 
 -- the calls by number, at the numbers x and y; a call of one number does not look at y

@@ -1,5 +1,4 @@
 // The probe's calls of numbers alone, group after group: who has no call of the number hands it on to the next.
-use density::Side;
 use elementary::exponential;
 use elementary::logarithm;
 use elementary::square_root;
@@ -19,6 +18,7 @@ use refusals::Refusal;
 use saturation::saturated_liquid;
 use saturation::saturated_vapour;
 use saturation::saturation_pressure;
+use search::Side;
 ghost use mathlib.Core.Path.{_≡_};
 ghost use Rattle.fluids.specs.declared.Fluid.the-variants.{R245ca};
 ghost use Rattle.probe_calls.specs.Calls.{lookUp, elementaryCalls, propertyCalls, estimateCalls, searchCalls};

@@ -15,7 +15,7 @@ use Rattle.fluids.specs.Entries.{entryOf}
 use Rattle.fluids.proofs.Sound.{sound}
 use Rattle.words.specs.Word.{wordOf}
 use Rattle.words.proofs.Tail.{tail-read}
-use Rattle.density.specs.declared.Side.{Side}
+use Rattle.search.specs.declared.Side.{Side}
 use Rattle.preparation.specs.Prepare.{greatestAfter, leastAfter}
 use Rattle.density.proofs.PreparedAlike.{lengths-left}
 use Rattle.density.proofs.Served.{any-serve-nan, prepared-serves}

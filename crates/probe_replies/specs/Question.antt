@@ -6,8 +6,8 @@ use lib.Ieee.{Float, binary64, ofBits}
 use Rattle.fluids.specs.declared.Fluid.{Fluid}
 use Rattle.fluids.specs.Entries.{entryOf}
 use Rattle.refusals.specs.declared.Answer.{Answer}
-use Rattle.density.specs.declared.Side.{Side}
-use Rattle.density.specs.declared.Side.the-variants.{FromBelow, FromAbove}
+use Rattle.search.specs.declared.Side.{Side}
+use Rattle.search.specs.declared.Side.the-variants.{FromBelow, FromAbove}
 use Rattle.density.specs.Calls.{quickOf}
 use Rattle.density.specs.Serving.{greatestAt, leastAt}
 use Rattle.outcomes.specs.Codes.{foundAnswerOf}

@@ -4,11 +4,11 @@
 // two: the code, and the number's bits, or all ones where refused.
 mod searches;
 
-use density::Side;
 use probe_calls::answer_of_numbers;
 use refusals::Answer;
 use refusals::Refusal;
 use refusals::answer_code;
+use search::Side;
 use searches::places;
 use searches::prepare_for;
 use searches::quick_answer;

@@ -1,10 +1,10 @@
 // The quick search over lists that are kept while the bits of a temperature stay the same.
-use density::Side;
 use density::quick;
 use fluids::Fluid;
 use outcomes::found_answer;
 use preparation::prepare;
 use refusals::Answer;
+use search::Side;
 use words::number;
 ghost use mathlib.Core.Path.{_≡_};
 ghost use Prim.Native.Nat.{_+_};

@@ -17,6 +17,7 @@ pub mod Saturation
 pub mod Inputs
 pub mod Lists
 pub mod Steps
+pub mod Cells
 pub mod Preparation
 pub mod Density
 pub mod Outcomes

@@ -23,15 +23,15 @@ use Rattle.properties.specs.Calls.{workedDensity, pressureOf}
 use Rattle.inputs.specs.Inputs.{statePermit}
 use Rattle.search.specs.declared.Located.{Located}
 use Rattle.search.specs.declared.Located.the-variants.{At, Refused}
-use Rattle.search.specs.Plain.{atEnds}
-use Rattle.density.specs.declared.Side.{Side}
+use Rattle.search.specs.declared.Side.{Side}
 use Rattle.steps.specs.Steps.{stepDensityOf}
 use Rattle.inputs.specs.Inputs.{searchPermit}
 use Rattle.density.specs.State.{foundStateOf}
 use Rattle.density.specs.Granted.{StepInside}
 use Rattle.steps.specs.Steps.{pressuresOf}
-use Rattle.density.specs.Calls.{plainCellOf, plainStepOf, searched, plainOf}
-use Rattle.density.proofs.Permitted.{question, plain-cell-crosses, step-inside}
+use Rattle.density.specs.Calls.{plainStepOf, searched, plainOf}
+use Rattle.density.proofs.Permitted.{question}
+use Rattle.density.proofs.Guarded.{plain-inside}
 use Rattle.steps.proofs.StepExact.{step-exact}
 use Rattle.questions.specs.declared.Question.{Question}
 use Rattle.questions.specs.declared.Question.the-variants.{State, Search}
@@ -70,8 +70,7 @@ density-finite F T P side = go (searchPermit F T P (entryOf F .topCells) true) r
         let c = entryOf F .topCells in
         let asked = question F T P c true e (keptOf F T) (kept-fluid F T) in
         let p = pressuresOf F T in
-        place-finite F T side (plainStepOf side p P c)
-        (step-inside p P (plainCellOf side (atEnds p) P c) (plain-cell-crosses p P c side asked))
+        place-finite F T side (plainStepOf side p P c) (plain-inside p P c (asked .top) side)
 
 work-finite : (F : Fluid) (asked : Question) → HandsOutFinite (workOf F asked)
 work-finite F (State T ρ) = pressure-finite F T ρ

@@ -23,8 +23,8 @@ use Rattle.fluids.specs.declared.Fluid.the-variants.{R245ca}
 use Rattle.fluids.specs.Entries.{entryOf}
 use Rattle.equation.specs.State.{stateAt, pressureValue}
 use Rattle.properties.specs.Calls.{pressureOf, workedDensity}
-use Rattle.density.specs.declared.Side.{Side}
-use Rattle.density.specs.declared.Found.{Found}
+use Rattle.search.specs.declared.Side.{Side}
+use Rattle.search.specs.declared.Found.{Found}
 use Rattle.density.specs.State.{foundStateOf}
 use Rattle.steps.specs.Steps.{pressuresOf}
 use Rattle.density.specs.Calls.{plainStepOf, searched, plainOf}

@@ -9,7 +9,7 @@ use Rattle.fluids.specs.declared.Fluid.{Fluid}
 use Rattle.fluids.specs.declared.Fluid.the-variants.{R245ca}
 use Rattle.fluids.specs.Entries.{entryOf}
 use Rattle.properties.specs.Calls.{pressureOf}
-use Rattle.density.specs.declared.Side.{Side}
+use Rattle.search.specs.declared.Side.{Side}
 use Rattle.density.specs.Calls.{plainOf}
 use Rattle.outcomes.specs.Codes.{foundAnswerOf}
 use Rattle.records.specs.declared.Kind.{Kind}

@@ -5,8 +5,8 @@ mod call;
 mod work;
 
 pub use call::answer_into;
-use density::Side;
 use refusals::Refusal;
+use search::Side;
 pub use work::answer;
 pub use work::asked;
 pub use work::density_at;

@@ -1,6 +1,5 @@
 // What a record asks, and its answer.
 use crate::Question;
-use density::Side;
 use density::plain_of;
 use fluids::Fluid;
 use outcomes::found_answer;
@@ -11,6 +10,7 @@ use records::Record;
 use records::read;
 use refusals::Answer;
 use refusals::Refusal;
+use search::Side;
 use words::number;
 ghost use mathlib.Core.Path.{_≡_};
 ghost use Rattle.questions.specs.Asked.{askedBy, askedOf, densityAt, workOf, answerOf};

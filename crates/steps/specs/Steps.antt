@@ -23,10 +23,11 @@ stepPressureOf kept k = pressureAt kept (stepDensityOf k)
 abbrev pub pressuresOf : Fluid → Float → ℕ → Float
 pressuresOf F t = stepPressureOf (keptOf F t)
 
--- ---- no fluid has more than the most cells: what the code gives for a step or an end beyond them is `nan`
+-- ---- no fluid has more than the most cells: what the code gives for a step beyond them is `nan`
 
 unfoldable pub inSteps : ℕ → Float → Float
 inSteps k x = cond (leb k (endStep mostCells)) x nan
 
-unfoldable pub inEnds : ℕ → Float → Float
-inEnds j x = cond (leb j mostCells) x nan
+-- the pressure at the step k, and `nan` beyond the most cells
+unfoldable pub pressureInSteps : Kept → ℕ → Float
+pressureInSteps kept k = inSteps k (stepPressureOf kept k)

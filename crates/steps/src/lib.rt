@@ -6,7 +6,7 @@ use fluids::MOST_CELLS;
 use kept::Kept;
 ghost use mathlib.Core.Path.{_≡_};
 ghost use Rattle.search.specs.Plain.{atEnds};
-ghost use Rattle.steps.specs.Steps.{inSteps, inEnds, stepDensityOf, stepPressureOf};
+ghost use Rattle.steps.specs.Steps.{inSteps, stepDensityOf, pressureInSteps};
 
 // A cell is 2²³ steps.
 const MOST_STEPS: usize = MOST_CELLS * 8388608;
@@ -24,7 +24,7 @@ pub fn step_density(k: usize) -> f64
 
 // The pressure at the step k of a kept temperature, in Pa; a NaN where 01 owes 12 too.
 pub fn step_pressure(kept: Kept, k: usize) -> f64
-    ensures { λ r. ⌜ r ≡ inSteps k (stepPressureOf kept k) ⌝ }
+    ensures { λ r. ⌜ r ≡ pressureInSteps kept k ⌝ }
 {
     if k <= MOST_STEPS {
         let rho = step_density(k);
@@ -35,7 +35,7 @@ pub fn step_pressure(kept: Kept, k: usize) -> f64
 
 // The pressure at the coarse end j: a cell is 2²³ steps.
 pub fn end_pressure(kept: Kept, j: usize) -> f64
-    ensures { λ r. ⌜ r ≡ inEnds j (atEnds (stepPressureOf kept) j) ⌝ }
+    ensures { λ r. ⌜ r ≡ atEnds (pressureInSteps kept) j ⌝ }
 {
     if j <= MOST_CELLS {
         let k = j * 8388608;

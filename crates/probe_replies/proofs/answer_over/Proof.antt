@@ -1,7 +1,7 @@
 -- `answer_over` meets its contract: its tests are those of `lookUp`, row by row, and the lists serve what the quick search is asked.
 -- Assumes nothing.
 use mathlib.Core.Path.{_∙_, sym}
-use Rattle.density.specs.declared.Side.the-variants.{FromBelow, FromAbove}
+use Rattle.search.specs.declared.Side.the-variants.{FromBelow, FromAbove}
 use Rattle.probe_replies.specs.Question.{answerTo}
 use Rattle.probe_calls.proofs.Rows.{found, passed-over, at-numbers}
 use Rattle.probe_replies.proofs.Served.{from-below-is-over, from-above-is-over, quick-at}
