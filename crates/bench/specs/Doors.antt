@@ -12,6 +12,7 @@ use Rattle.arithmetic.specs.Checked.{real}
 use Rattle.fluids.specs.declared.Fluid.the-variants.{R245ca}
 use Rattle.kept.specs.Kept.{keptOf}
 use Rattle.equation.specs.State.{pressureAt}
+use Rattle.density.specs.Calls.{plainOf, quickOf}
 use Rattle.search.specs.declared.Side.{Side}
 use Rattle.search.specs.declared.Side.the-variants.{FromBelow, FromAbove}
 use Rattle.search.specs.declared.Found.{Found}
@@ -30,6 +31,13 @@ foundDensity (Found.Refused r) = nan
 -- 0 is from below, any other number from above
 abbrev pub sideOf : ℕ → Side
 sideOf n = cond (eqb n 0) FromBelow FromAbove
+
+-- the searches as the doors ask them: R-245ca, the side by its number
+abbrev pub plainFrom : Float → Float → ℕ → ℕ → Found
+plainFrom t P c side = plainOf R245ca t P c (sideOf side)
+
+abbrev pub quickFrom : Float → Float → ℕ → ℕ → List Float → List Float → Found
+quickFrom t P c side greatest least = quickOf R245ca t P c (sideOf side) greatest least
 
 -- the sum of f over the first i entries, from 0 and in their order
 unfoldable pub totalTo : (Float → Float) → List Float → ℕ → Float

@@ -24,11 +24,10 @@ ghost use Rattle.logarithms.specs.Ln.{lnOf};
 ghost use Rattle.roots.specs.Root.{rootOf};
 ghost use Rattle.fluids.specs.declared.Fluid.the-variants.{R245ca};
 ghost use Rattle.properties.specs.Calls.{pressureOf, entropyOf, isobaricOf, soundSpeedOf};
-ghost use Rattle.density.specs.Calls.{plainOf, quickOf};
 ghost use Rattle.preparation.specs.Prepare.{prepareOf, greatestAfter, leastAfter};
 ghost use Rattle.outcomes.specs.Codes.{foundCodeOf, preparedCodeOf};
 ghost use Rattle.outcomes.specs.Parts.{foundWordOf};
-ghost use Rattle.bench.specs.Doors.{numberOf, foundDensity, sideOf, isothermOf};
+ghost use Rattle.bench.specs.Doors.{numberOf, foundDensity, sideOf, plainFrom, quickFrom, isothermOf};
 
 // ---- the elementary functions
 
@@ -134,21 +133,21 @@ fn side_of(n: u32) -> Side
 
 #[no_mangle]
 pub extern "C" fn bench_plain(t: f64, p: f64, c: usize, side: u32) -> f64
-    ensures { λ r. ⌜ r ≡ foundDensity (plainOf R245ca t p c (sideOf side)) ⌝ }
+    ensures { λ r. ⌜ r ≡ foundDensity (plainFrom t p c side) ⌝ }
 {
     found_density(plain(t, p, c, side_of(side)))
 }
 
 #[no_mangle]
 pub extern "C" fn bench_plain_code(t: f64, p: f64, c: usize, side: u32) -> u32
-    ensures { λ r. ⌜ r ≡ foundCodeOf (plainOf R245ca t p c (sideOf side)) ⌝ }
+    ensures { λ r. ⌜ r ≡ foundCodeOf (plainFrom t p c side) ⌝ }
 {
     found_code(plain(t, p, c, side_of(side)))
 }
 
 #[no_mangle]
 pub extern "C" fn bench_plain_word(t: f64, p: f64, c: usize, side: u32) -> u64
-    ensures { λ r. ⌜ r ≡ foundWordOf (plainOf R245ca t p c (sideOf side)) ⌝ }
+    ensures { λ r. ⌜ r ≡ foundWordOf (plainFrom t p c side) ⌝ }
 {
     found_word(plain(t, p, c, side_of(side)))
 }
@@ -172,7 +171,7 @@ pub extern "C" fn bench_quick(
     greatest: &[f64],
     least: &[f64],
 ) -> f64
-    ensures { λ r. ⌜ r ≡ foundDensity (quickOf R245ca t p c (sideOf side) (now (greatest .entry)) (now (least .entry))) ⌝ }
+    ensures { λ r. ⌜ r ≡ foundDensity (quickFrom t p c side (now (greatest .entry)) (now (least .entry))) ⌝ }
 {
     found_density(quick(t, p, c, side_of(side), greatest, least))
 }
@@ -186,7 +185,7 @@ pub extern "C" fn bench_quick_code(
     greatest: &[f64],
     least: &[f64],
 ) -> u32
-    ensures { λ r. ⌜ r ≡ foundCodeOf (quickOf R245ca t p c (sideOf side) (now (greatest .entry)) (now (least .entry))) ⌝ }
+    ensures { λ r. ⌜ r ≡ foundCodeOf (quickFrom t p c side (now (greatest .entry)) (now (least .entry))) ⌝ }
 {
     found_code(quick(t, p, c, side_of(side), greatest, least))
 }
@@ -200,7 +199,7 @@ pub extern "C" fn bench_quick_word(
     greatest: &[f64],
     least: &[f64],
 ) -> u64
-    ensures { λ r. ⌜ r ≡ foundWordOf (quickOf R245ca t p c (sideOf side) (now (greatest .entry)) (now (least .entry))) ⌝ }
+    ensures { λ r. ⌜ r ≡ foundWordOf (quickFrom t p c side (now (greatest .entry)) (now (least .entry))) ⌝ }
 {
     found_word(quick(t, p, c, side_of(side), greatest, least))
 }
