@@ -5,11 +5,12 @@ mod rows;
 use crate::factors::xs_at;
 use crate::rows::Row;
 use crate::rows::row_of;
+use arithmetic::both_finite;
 use arithmetic::squash;
 use kept::Kept;
 ghost use mathlib.Core.Path.{_≡_};
 ghost use Rattle.sums.specs.Sums.{addRow, sumsAt};
-ghost use Rattle.sums.specs.Squashed.{squashRow, squashSums};
+ghost use Rattle.sums.specs.Squashed.{squashRow, squashSums, allFinite};
 
 // The six sums of a state.
 pub struct Sums {
@@ -60,10 +61,25 @@ fn summed(kept: Kept, delta: f64) -> Sums
     s
 }
 
-// The same sums, each one NaN where it is not finite.
+// Whether all six are finite.
+fn all_finite(s: Sums) -> bool
+    ensures { λ r. ⌜ r ≡ allFinite s ⌝ }
+{
+    if both_finite(s.s0, s.s1) {
+        if both_finite(s.s2, s.t1) {
+            return both_finite(s.t2, s.st);
+        }
+    }
+    false
+}
+
+// The same sums, each one NaN where it is not finite. Most are: then nothing waits for a selection.
 fn settled(s: Sums) -> Sums
     ensures { λ r. ⌜ r ≡ squashSums s ⌝ }
 {
+    if all_finite(s) {
+        return s;
+    }
     let s0 = squash(s.s0);
     let s1 = squash(s.s1);
     let s2 = squash(s.s2);
