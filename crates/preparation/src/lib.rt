@@ -60,22 +60,31 @@ fn prepare_lists(kept: Kept, c: usize, greatest: &mut [f64], least: &mut [f64]) 
     }
 }
 
-// The greatest and the least pressures of R-245ca over c cells at t K into the first c + 1 places of two lent lists; or 2, 3, 6, 7, and
-// 12 with +0 in those places. 12 never occurs (docs/NO-ANSWER.md).
+// The greatest and the least pressures of a fluid over c cells at t K into the first c + 1 places of two lent lists; or 2, 3, 6, 7, and 12
+// with +0 in those places. 12 never occurs (docs/NO-ANSWER.md).
+fn prepare_of(fluid: Fluid, t: f64, c: usize, greatest: &mut [f64], least: &mut [f64]) -> Prepared
+    ensures { λ r. ⌜ (r ≡ prepareOf fluid t c (now (greatest .entry)) (now (least .entry)))
+        × (now (greatest .exit) ≡ greatestAfter fluid t c (now (greatest .entry)) (now (least .entry)))
+        × (now (least .exit) ≡ leastAfter fluid t c (now (greatest .entry)) (now (least .entry))) ⌝ }
+{
+    let n = greatest.len();
+    let m = least.len();
+    let enough = room(c, n, m);
+    let inputs = prepare_inputs(fluid, t, c, enough);
+    match inputs {
+        Permit::Denied(r) => Prepared::Refused(r),
+        Permit::Granted => {
+            let kept = keep(fluid, t);
+            prepare_lists(kept, c, greatest, least)
+        }
+    }
+}
+
+// The pressures of R-245ca.
 pub fn prepare(t: f64, c: usize, greatest: &mut [f64], least: &mut [f64]) -> Prepared
     ensures { λ r. ⌜ (r ≡ prepareOf R245ca t c (now (greatest .entry)) (now (least .entry)))
         × (now (greatest .exit) ≡ greatestAfter R245ca t c (now (greatest .entry)) (now (least .entry)))
         × (now (least .exit) ≡ leastAfter R245ca t c (now (greatest .entry)) (now (least .entry))) ⌝ }
 {
-    let n = greatest.len();
-    let m = least.len();
-    let enough = room(c, n, m);
-    let inputs = prepare_inputs(Fluid::R245ca, t, c, enough);
-    match inputs {
-        Permit::Denied(r) => Prepared::Refused(r),
-        Permit::Granted => {
-            let kept = keep(Fluid::R245ca, t);
-            prepare_lists(kept, c, greatest, least)
-        }
-    }
+    prepare_of(Fluid::R245ca, t, c, greatest, least)
 }

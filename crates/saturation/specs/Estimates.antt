@@ -46,17 +46,17 @@ summedAs Vapour θ terms = fromFirst θ terms (length terms)
 unfoldable pub seriesOf : Fluid → Float → Curve → Float
 seriesOf F θ curve = summedAs curve θ (termsOf (entryOf F) curve)
 
--- the digits are R-245ca's
+-- the numbers n and the powers t are the terms of the fluid's entry, in its order
 module _ (F : Fluid) (T : Float) where
-  -- pc·exp((Tc/T)·(−7.8757·θ + 2.0426·θ^1.5 − 3.3614·θ^2.6 − 4.8567·θ^5.2)), Pa
+  -- pc·exp((Tc/T)·(n·θ + n·θᵗ + ..)), Pa
   unfoldable pub pressureEstimate : Float
   pressureEstimate = thetaOf F T ▷ λ θ. entryOf F .pc ⊗ expOf ((entryOf F .Tc ⊘ T) ⊗ seriesOf F θ Pressure)
 
-  -- ρc·(1 + 4.0075·θ^0.48 − 4.6786·θ + 6.6575·θ^1.6 − 5.096·θ^2.4 + 2.364·θ^3.5), mol/dm³
+  -- ρc·(1 + n·θᵗ + ..), mol/dm³
   unfoldable pub liquidEstimate : Float
   liquidEstimate = thetaOf F T ▷ λ θ. entryOf F .ρc ⊗ seriesOf F θ Liquid
 
-  -- ρc·exp(−4.8138·θ^0.505 − 5.557·θ^1.65 − 11.257·θ^2.5 − 55.775·θ^5.5 − 138.45·θ^12), mol/dm³
+  -- ρc·exp(n·θᵗ + ..), mol/dm³
   unfoldable pub vapourEstimate : Float
   vapourEstimate = thetaOf F T ▷ λ θ. entryOf F .ρc ⊗ expOf (seriesOf F θ Vapour)
 
