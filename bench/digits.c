@@ -1,5 +1,5 @@
-/* Writes the digits of R-245ca as constants for the candidates. They stand once outside the crates, in the tests' table, so that
- * neither bench's C nor its Rust can have others.
+/* Writes the digits of the fluids as constants for the candidates. They stand once outside the crates, in the tests' table, so
+ * that neither bench's C nor its Rust can have others.
  *
  *     digits c | digits rust
  *
@@ -11,44 +11,69 @@
 
 #define DIGITS "%.16e"
 
-struct constant {
-    const char *c_name, *rust_name;
-    double value;
+/* How a language writes the parts of an entry. */
+struct language {
+    void (*single)(const char *c_name, const char *rust_name, double value);
+    void (*range)(const char *c_name, const char *rust_name, const struct range *range);
+    void (*pair)(const struct ideal_pair *pair);
+    void (*row)(const struct row *row);
+    /* What stands before the array, an entry, its top, its pairs and its rows, and after a list, an entry and the array. */
+    const char *begin, *entry, *top, *pairs, *rows, *list_end, *entry_end, *end;
 };
 
-typedef void write_constant(const struct constant *constant);
-typedef void write_pair(const struct ideal_pair *pair);
-typedef void write_row(const struct row *row);
+/* ---- C, where fluids.h has the types */
 
-/* ---- C, where r245ca.h has the types */
+static void c_single(const char *c_name, const char *rust_name, double value) {
+    (void)rust_name;
+    printf("        .%s = " DIGITS ",\n", c_name, value);
+}
 
-static void c_constant(const struct constant *constant) {
-    printf("static const double %s = " DIGITS ";\n", constant->c_name, constant->value);
+static void c_range(const char *c_name, const char *rust_name, const struct range *range) {
+    (void)rust_name;
+    printf("        .%s = {" DIGITS ", " DIGITS "},\n", c_name, range->least, range->greatest);
 }
 
 static void c_pair(const struct ideal_pair *pair) {
-    printf("    {" DIGITS ", " DIGITS "},\n", pair->v, pair->u);
+    printf("            {" DIGITS ", " DIGITS "},\n", pair->v, pair->u);
 }
 
 static void c_row(const struct row *row) {
     static const char *const kinds[] = {[PLAIN] = "PLAIN", [DAMPED] = "DAMPED", [BELL] = "BELL"};
-    printf("    {%s, " DIGITS ", " DIGITS ", %u, %u, ", kinds[row->kind], row->N, row->t, row->d, row->l);
+    printf("            {%s, " DIGITS ", " DIGITS ", %u, %u, ", kinds[row->kind], row->N, row->t, row->d, row->l);
     printf(DIGITS ", " DIGITS ", " DIGITS ", " DIGITS "},\n", row->eta, row->beta, row->gamma, row->epsilon);
 }
 
-/* ---- Rust, where r245ca.rs has them */
+static const struct language in_c = {
+    c_single, c_range, c_pair, c_row,
+    "static const struct fluid fluids[] = {\n",
+    "    {\n",
+    "        .top = ",
+    "        .pairs = {\n",
+    "        .rows = {\n",
+    "        },\n",
+    "    },\n",
+    "};\n",
+};
 
-static void rust_constant(const struct constant *constant) {
-    printf("pub const %s: f64 = " DIGITS ";\n", constant->rust_name, constant->value);
+/* ---- Rust, where fluids.rs has them */
+
+static void rust_single(const char *c_name, const char *rust_name, double value) {
+    (void)c_name;
+    printf("        %s: " DIGITS ",\n", rust_name, value);
+}
+
+static void rust_range(const char *c_name, const char *rust_name, const struct range *range) {
+    (void)c_name;
+    printf("        %s: Range { least: " DIGITS ", greatest: " DIGITS " },\n", rust_name, range->least, range->greatest);
 }
 
 static void rust_pair(const struct ideal_pair *pair) {
-    printf("    (" DIGITS ", " DIGITS "),\n", pair->v, pair->u);
+    printf("            (" DIGITS ", " DIGITS "),\n", pair->v, pair->u);
 }
 
 static void rust_row(const struct row *row) {
     static const char *const kinds[] = {[PLAIN] = "Plain", [DAMPED] = "Damped", [BELL] = "Bell"};
-    printf("    %s(Power(" DIGITS ", " DIGITS ", %u)", kinds[row->kind], row->N, row->t, row->d);
+    printf("            %s(Power(" DIGITS ", " DIGITS ", %u)", kinds[row->kind], row->N, row->t, row->d);
     if (row->kind == DAMPED)
         printf(", %u", row->l);
     if (row->kind == BELL)
@@ -56,63 +81,66 @@ static void rust_row(const struct row *row) {
     printf("),\n");
 }
 
+static const struct language in_rust = {
+    rust_single, rust_range, rust_pair, rust_row,
+    "pub static FLUIDS: &[Fluid] = &[\n",
+    "    Fluid {\n",
+    "        top: ",
+    "        pairs: [\n",
+    "        rows: [\n",
+    "        ],\n",
+    "    },\n",
+    "];\n",
+};
+
 /* ---- both */
 
-static void write_constants(write_constant *write) {
-    const struct constant constants[] = {
-        {"Tc", "CRITICAL_T", r245ca.Tc},
-        {"rhoc", "CRITICAL_RHO", r245ca.rhoc},
-        {"R", "R", r245ca.R},
-        {"M", "M", r245ca.M},
-        {"least_T", "LEAST_T", r245ca.T.least},
-        {"greatest_T", "GREATEST_T", r245ca.T.greatest},
-        {"least_rho", "LEAST_RHO", r245ca.rho.least},
-        {"greatest_rho", "GREATEST_RHO", r245ca.rho.greatest},
-        {"least_P", "LEAST_P", r245ca.P.least},
-        {"greatest_P", "GREATEST_P", r245ca.P.greatest},
-        {"a1", "A1", r245ca.a1},
-        {"a2", "A2", r245ca.a2},
-        {"c0", "C0", r245ca.c0},
-    };
-    for (size_t k = 0; k < sizeof constants / sizeof *constants; k++)
-        write(&constants[k]);
+static void write_singles(const struct language *in, const struct fluid *fluid) {
+    in->single("Tc", "critical_t", fluid->Tc);
+    in->single("rhoc", "critical_rho", fluid->rhoc);
+    in->single("R", "r", fluid->R);
+    in->single("M", "m", fluid->M);
+    in->single("a1", "a1", fluid->a1);
+    in->single("a2", "a2", fluid->a2);
+    in->single("c0", "c0", fluid->c0);
+    in->range("T", "t", &fluid->T);
+    in->range("rho", "rho", &fluid->rho);
+    in->range("P", "p", &fluid->P);
+    printf("%s%d,\n", in->top, (int)fluid->top);
 }
 
-static void write_pairs(write_pair *write) {
+static void write_pairs(const struct language *in, const struct fluid *fluid) {
+    printf("%s", in->pairs);
     for (size_t k = 0; k < IDEAL_PAIRS; k++)
-        write(&r245ca.pair[k]);
+        in->pair(&fluid->pair[k]);
+    printf("%s", in->list_end);
 }
 
-static void write_rows(write_row *write) {
+static void write_rows(const struct language *in, const struct fluid *fluid) {
+    printf("%s", in->rows);
     for (size_t k = 0; k < ROWS; k++)
-        write(&r245ca.row[k]);
+        in->row(&fluid->row[k]);
+    printf("%s", in->list_end);
 }
 
-static void write_c(void) {
-    printf("enum { ROWS = %d, PAIRS = %d, TOP = %d };\n", ROWS, IDEAL_PAIRS, (int)r245ca.top);
-    write_constants(c_constant);
-    printf("static const struct pair pairs[PAIRS] = {\n");
-    write_pairs(c_pair);
-    printf("};\nstatic const struct row rows[ROWS] = {\n");
-    write_rows(c_row);
-    printf("};\n");
-}
-
-static void write_rust(void) {
-    printf("pub const TOP: usize = %d;\n", (int)r245ca.top);
-    write_constants(rust_constant);
-    printf("pub static PAIRS: [(f64, f64); %d] = [\n", IDEAL_PAIRS);
-    write_pairs(rust_pair);
-    printf("];\npub static ROWS: [Row; %d] = [\n", ROWS);
-    write_rows(rust_row);
-    printf("];\n");
+static void write_fluids(const struct language *in) {
+    printf("%s", in->begin);
+    for (uint64_t number = 0; number < FLUIDS; number++) {
+        const struct fluid *fluid = fluid_numbered(number);
+        printf("%s", in->entry);
+        write_singles(in, fluid);
+        write_pairs(in, fluid);
+        write_rows(in, fluid);
+        printf("%s", in->entry_end);
+    }
+    printf("%s", in->end);
 }
 
 int main(int count, char **words) {
     if (count == 2 && strcmp(words[1], "c") == 0)
-        write_c();
+        write_fluids(&in_c);
     else if (count == 2 && strcmp(words[1], "rust") == 0)
-        write_rust();
+        write_fluids(&in_rust);
     else
         return 2;
     return fflush(stdout) != 0;

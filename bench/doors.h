@@ -1,41 +1,47 @@
-/* The calls of one form, which has defined `state_at` and `isotherm_total` before. */
+/* The calls of one form, which has defined `state_at` and `isotherm_total` before. Each takes the fluid's number first; where no
+ * fluid has it there is no number. */
 #include "named.h"
 
-double NAMED(pressure)(double T, double rho);
-double NAMED(entropy)(double T, double rho);
-double NAMED(isobaric)(double T, double rho);
-double NAMED(sound_speed)(double T, double rho);
-double NAMED(isotherm)(double T, const double *densities, size_t count);
+double NAMED(pressure)(uint32_t number, double T, double rho);
+double NAMED(entropy)(uint32_t number, double T, double rho);
+double NAMED(isobaric)(uint32_t number, double T, double rho);
+double NAMED(sound_speed)(uint32_t number, double T, double rho);
+double NAMED(isotherm)(uint32_t number, double T, const double *densities, size_t count);
 
-double NAMED(pressure)(double T, double rho) {
-    if (!permitted(T, rho))
+double NAMED(pressure)(uint32_t number, double T, double rho) {
+    const struct fluid *fluid = fluid_numbered(number);
+    if (!permitted(fluid, T, rho))
         return NAN;
-    struct state s = state_at(T, worked(rho));
-    return pressure_of(s.T, s.rho, s.sums.s1);
+    struct state s = state_at(fluid, T, worked(rho));
+    return state_pressure(&s);
 }
 
-double NAMED(entropy)(double T, double rho) {
-    if (!permitted(T, rho) || rho == 0.0)
+double NAMED(entropy)(uint32_t number, double T, double rho) {
+    const struct fluid *fluid = fluid_numbered(number);
+    if (!permitted(fluid, T, rho) || rho == 0.0)
         return NAN;
-    struct state s = state_at(T, rho);
+    struct state s = state_at(fluid, T, rho);
     return entropy_of(&s);
 }
 
-double NAMED(isobaric)(double T, double rho) {
-    if (!permitted(T, rho))
+double NAMED(isobaric)(uint32_t number, double T, double rho) {
+    const struct fluid *fluid = fluid_numbered(number);
+    if (!permitted(fluid, T, rho))
         return NAN;
-    struct state s = state_at(T, worked(rho));
+    struct state s = state_at(fluid, T, worked(rho));
     return isobaric_of(&s);
 }
 
-double NAMED(sound_speed)(double T, double rho) {
-    if (!permitted(T, rho))
+double NAMED(sound_speed)(uint32_t number, double T, double rho) {
+    const struct fluid *fluid = fluid_numbered(number);
+    if (!permitted(fluid, T, rho))
         return NAN;
-    struct state s = state_at(T, worked(rho));
+    struct state s = state_at(fluid, T, worked(rho));
     return sound_speed_of(&s);
 }
 
 /* The sum of the pressures at T and each of the densities. */
-double NAMED(isotherm)(double T, const double *densities, size_t count) {
-    return isotherm_total(T, densities, count);
+double NAMED(isotherm)(uint32_t number, double T, const double *densities, size_t count) {
+    const struct fluid *fluid = fluid_numbered(number);
+    return fluid ? isotherm_total(fluid, T, densities, count) : NAN;
 }

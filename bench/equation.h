@@ -3,7 +3,7 @@
 #ifndef EQUATION_H
 #define EQUATION_H
 
-#include "r245ca.h"
+#include "fluids.h"
 #include "steps.h"
 
 struct sums {
@@ -11,13 +11,14 @@ struct sums {
 };
 
 struct state {
+    const struct fluid *fluid;
     double T, rho, tau, ln_tau, delta;
     struct sums sums;
 };
 
-/* A NaN is between nothing. */
-static inline int permitted(double T, double rho) {
-    return least_T <= T && T <= greatest_T && least_rho <= rho && rho <= greatest_rho;
+/* Whether there is a fluid, and T and the density are in its ranges. */
+static inline int permitted(const struct fluid *fluid, double T, double rho) {
+    return fluid && in_range(&fluid->T, T) && in_range(&fluid->rho, rho);
 }
 
 /* A density of minus zero is worked as +0. */
@@ -79,40 +80,47 @@ static inline double over(double dividend, double divisor) {
 }
 
 static inline double ideal_0(const struct state *s) {
+    const struct fluid *fluid = s->fluid;
     double sum = 0.0;
     for (int k = 0; k < PAIRS; k++)
-        sum += pairs[k].v * ln_of(1.0 - exp_of(-(pairs[k].u / s->T)));
-    return a1 + a2 * s->tau + ln_of(s->delta) + (c0 - 1.0) * s->ln_tau + sum;
+        sum += fluid->pairs[k].v * ln_of(1.0 - exp_of(-(fluid->pairs[k].u / s->T)));
+    return fluid->a1 + fluid->a2 * s->tau + ln_of(s->delta) + (fluid->c0 - 1.0) * s->ln_tau + sum;
 }
 
 static inline double ideal_1(const struct state *s) {
+    const struct fluid *fluid = s->fluid;
     double sum = 0.0;
     for (int k = 0; k < PAIRS; k++) {
-        double b = pairs[k].u / s->T;
+        double b = fluid->pairs[k].u / s->T;
         double w = exp_of(b);
-        sum += over(pairs[k].v * b, w - 1.0);
+        sum += over(fluid->pairs[k].v * b, w - 1.0);
     }
-    return a2 * s->tau + (c0 - 1.0) + sum;
+    return fluid->a2 * s->tau + (fluid->c0 - 1.0) + sum;
 }
 
 static inline double ideal_2(const struct state *s) {
+    const struct fluid *fluid = s->fluid;
     double sum = 0.0;
     for (int k = 0; k < PAIRS; k++) {
-        double b = pairs[k].u / s->T;
+        double b = fluid->pairs[k].u / s->T;
         double w = exp_of(b);
-        sum += over(pairs[k].v * b * b * w, (w - 1.0) * (w - 1.0));
+        sum += over(fluid->pairs[k].v * b * b * w, (w - 1.0) * (w - 1.0));
     }
-    return (c0 - 1.0) + sum;
+    return (fluid->c0 - 1.0) + sum;
 }
 
 /* ---- properties */
 
-static inline double pressure_of(double T, double rho, double s1) {
+static inline double pressure_of(double R, double T, double rho, double s1) {
     return finite_or_nan(((rho * 1000.0) * (R * T)) * (1.0 + s1));
 }
 
+static inline double state_pressure(const struct state *s) {
+    return pressure_of(s->fluid->R, s->T, s->rho, s->sums.s1);
+}
+
 static inline double entropy_of(const struct state *s) {
-    return finite_or_nan(R * (ideal_1(s) + s->sums.t1 - ideal_0(s) - s->sums.s0));
+    return finite_or_nan(s->fluid->R * (ideal_1(s) + s->sums.t1 - ideal_0(s) - s->sums.s0));
 }
 
 struct stability {
@@ -130,12 +138,12 @@ static inline int stable(struct stability by) {
 
 static inline double isobaric_of(const struct state *s) {
     struct stability by = stability_of(s);
-    return stable(by) ? finite_or_nan(R * (by.V + by.K * by.K / by.Q)) : NAN;
+    return stable(by) ? finite_or_nan(s->fluid->R * (by.V + by.K * by.K / by.Q)) : NAN;
 }
 
 static inline double sound_speed_of(const struct state *s) {
     struct stability by = stability_of(s);
-    return stable(by) ? root_of((R * s->T) / M * (by.Q + by.K * by.K / by.V)) : NAN;
+    return stable(by) ? root_of((s->fluid->R * s->T) / s->fluid->M * (by.Q + by.K * by.K / by.V)) : NAN;
 }
 
 #endif

@@ -3,8 +3,7 @@
 #[path = "records.rs"]
 mod records;
 
-use crate::r245ca::{Power, Row, A1, A2, C0, CRITICAL_RHO, CRITICAL_T, M, PAIRS, R, ROWS};
-use crate::r245ca::{GREATEST_RHO, GREATEST_T, LEAST_RHO, LEAST_T};
+use crate::fluids::{fluid_numbered, Fluid, Power, Row};
 use crate::{finite_or_nan, seven_exps, rust_exp as exp, rust_ln as ln, rust_root as root};
 
 #[derive(Clone, Copy, Default)]
@@ -18,6 +17,7 @@ struct Sums {
 }
 
 pub(crate) struct Kept {
+    fluid: &'static Fluid,
     t: f64,
     tau: f64,
     ln_tau: f64,
@@ -26,6 +26,7 @@ pub(crate) struct Kept {
 }
 
 struct State {
+    fluid: &'static Fluid,
     t: f64,
     rho: f64,
     tau: f64,
@@ -55,13 +56,14 @@ fn joined(first: [f64; 7], second: [f64; 7]) -> [f64; 14] {
     core::array::from_fn(|k| if k < 7 { first[k] } else { second[k - 7] })
 }
 
-pub(crate) fn keep(t: f64) -> Kept {
-    let tau = CRITICAL_T / t;
+pub(crate) fn keep(fluid: &'static Fluid, t: f64) -> Kept {
+    let rows = &fluid.rows;
+    let tau = fluid.critical_t / t;
     let ln_tau = ln(tau);
-    let half = |from: usize| seven_exps(core::array::from_fn(|k| exponent(&ROWS[from + k]) * ln_tau));
+    let half = |from: usize| seven_exps(core::array::from_fn(|k| exponent(&rows[from + k]) * ln_tau));
     let powers = joined(half(0), half(7));
-    let bells = core::array::from_fn(|k| bell_part(&ROWS[k], tau));
-    Kept { t, tau, ln_tau, powers, bells }
+    let bells = core::array::from_fn(|k| bell_part(&rows[k], tau));
+    Kept { fluid, t, tau, ln_tau, powers, bells }
 }
 
 fn whole_power(x: f64, n: i32) -> f64 {
@@ -123,20 +125,21 @@ fn added(s: Sums, Given(a, q, r, f, g): Given) -> Sums {
 }
 
 fn sums_at(kept: &Kept, delta: f64) -> Sums {
-    let second = seven_exps(core::array::from_fn(|k| x_exponent(&ROWS[7 + k], delta, kept.bells[7 + k])));
-    let xs = joined(core::array::from_fn(|k| first_x(&ROWS[k], &second)), second);
+    let rows = &kept.fluid.rows;
+    let second = seven_exps(core::array::from_fn(|k| x_exponent(&rows[7 + k], delta, kept.bells[7 + k])));
+    let xs = joined(core::array::from_fn(|k| first_x(&rows[k], &second)), second);
     let mut s = Sums::default();
-    for (k, row) in ROWS.iter().enumerate() {
+    for (k, row) in rows.iter().enumerate() {
         s = added(s, row_of(row, delta, kept.tau, kept.powers[k], xs[k]));
     }
     s
 }
 
-fn state_at(t: f64, rho: f64) -> State {
-    let kept = keep(t);
-    let delta = rho / CRITICAL_RHO;
+fn state_at(fluid: &'static Fluid, t: f64, rho: f64) -> State {
+    let kept = keep(fluid, t);
+    let delta = rho / fluid.critical_rho;
     let sums = sums_at(&kept, delta);
-    State { t, rho, tau: kept.tau, ln_tau: kept.ln_tau, delta, sums }
+    State { fluid, t, rho, tau: kept.tau, ln_tau: kept.ln_tau, delta, sums }
 }
 
 // ---- the ideal part
@@ -151,38 +154,47 @@ fn over(dividend: f64, divisor: f64) -> f64 {
 }
 
 /// Sums start at +0.
-fn total(part: impl Fn(f64, f64) -> f64) -> f64 {
+fn total(fluid: &Fluid, part: impl Fn(f64, f64) -> f64) -> f64 {
     let mut sum = 0.0;
-    for &(v, u) in &PAIRS {
+    for &(v, u) in &fluid.pairs {
         sum += part(v, u);
     }
     sum
 }
 
 fn ideal_0(s: &State) -> f64 {
-    let sum = total(|v, u| v * ln(1.0 - exp(-(u / s.t))));
-    A1 + A2 * s.tau + ln(s.delta) + (C0 - 1.0) * s.ln_tau + sum
+    let fluid = s.fluid;
+    let sum = total(fluid, |v, u| v * ln(1.0 - exp(-(u / s.t))));
+    fluid.a1 + fluid.a2 * s.tau + ln(s.delta) + (fluid.c0 - 1.0) * s.ln_tau + sum
 }
 
 fn ideal_1(s: &State) -> f64 {
     let part = |v: f64, b: f64| over(v * b, exp(b) - 1.0);
-    A2 * s.tau + (C0 - 1.0) + total(|v, u| part(v, u / s.t))
+    s.fluid.a2 * s.tau + (s.fluid.c0 - 1.0) + total(s.fluid, |v, u| part(v, u / s.t))
 }
 
 fn ideal_2(s: &State) -> f64 {
     let part = |v: f64, b: f64, w: f64| over(v * b * b * w, (w - 1.0) * (w - 1.0));
-    (C0 - 1.0) + total(|v, u| part(v, u / s.t, exp(u / s.t)))
+    (s.fluid.c0 - 1.0) + total(s.fluid, |v, u| part(v, u / s.t, exp(u / s.t)))
 }
 
 // ---- properties
 
-fn pressure_of(t: f64, rho: f64, s1: f64) -> f64 {
-    finite_or_nan(((rho * 1000.0) * (R * t)) * (1.0 + s1))
+fn pressure_of(fluid: &Fluid, t: f64, rho: f64, s1: f64) -> f64 {
+    finite_or_nan(((rho * 1000.0) * (fluid.r * t)) * (1.0 + s1))
+}
+
+fn state_pressure(s: &State) -> f64 {
+    pressure_of(s.fluid, s.t, s.rho, s.sums.s1)
 }
 
 /// The pressure at a kept temperature.
 pub(crate) fn pressure_at(kept: &Kept, rho: f64) -> f64 {
-    pressure_of(kept.t, rho, sums_at(kept, rho / CRITICAL_RHO).s1)
+    pressure_of(kept.fluid, kept.t, rho, sums_at(kept, rho / kept.fluid.critical_rho).s1)
+}
+
+fn entropy_of(s: &State) -> f64 {
+    finite_or_nan(s.fluid.r * (ideal_1(s) + s.sums.t1 - ideal_0(s) - s.sums.s0))
 }
 
 /// V, K and Q, where they are finite and the state is stable.
@@ -194,33 +206,49 @@ fn stability_of(s: &State) -> Option<(f64, f64, f64)> {
     (finite && q > 0.0 && v > 0.0).then_some((v, k, q))
 }
 
-/// The state where T and the density are in range; a density of minus zero is worked as +0.
-fn permitted(t: f64, rho: f64) -> Option<State> {
-    let inside = (LEAST_T..=GREATEST_T).contains(&t) && (LEAST_RHO..=GREATEST_RHO).contains(&rho);
-    inside.then(|| state_at(t, if rho == 0.0 { 0.0 } else { rho }))
+fn isobaric_of(s: &State) -> f64 {
+    stability_of(s).map_or(f64::NAN, |(v, k, q)| finite_or_nan(s.fluid.r * (v + k * k / q)))
+}
+
+fn sound_speed_of(s: &State) -> f64 {
+    stability_of(s).map_or(f64::NAN, |(v, k, q)| root((s.fluid.r * s.t) / s.fluid.m * (q + k * k / v)))
+}
+
+/// The state of the fluid of a number where there is one, and T and the density are in its ranges; a density of minus zero is
+/// worked as +0.
+fn permitted(number: u32, t: f64, rho: f64) -> Option<State> {
+    let fluid = fluid_numbered(number)?;
+    let inside = fluid.t.has(t) && fluid.rho.has(rho);
+    inside.then(|| state_at(fluid, t, if rho == 0.0 { 0.0 } else { rho }))
 }
 
 #[no_mangle]
-pub extern "C" fn rust_pressure(t: f64, rho: f64) -> f64 {
-    permitted(t, rho).map_or(f64::NAN, |s| pressure_of(s.t, s.rho, s.sums.s1))
+pub extern "C" fn rust_pressure(number: u32, t: f64, rho: f64) -> f64 {
+    permitted(number, t, rho).map_or(f64::NAN, |s| state_pressure(&s))
 }
 
 #[no_mangle]
-pub extern "C" fn rust_entropy(t: f64, rho: f64) -> f64 {
-    let value = |s: State| finite_or_nan(R * (ideal_1(&s) + s.sums.t1 - ideal_0(&s) - s.sums.s0));
-    permitted(t, rho).filter(|s| s.rho != 0.0).map_or(f64::NAN, value)
+pub extern "C" fn rust_entropy(number: u32, t: f64, rho: f64) -> f64 {
+    permitted(number, t, rho).filter(|s| s.rho != 0.0).map_or(f64::NAN, |s| entropy_of(&s))
 }
 
 #[no_mangle]
-pub extern "C" fn rust_isobaric(t: f64, rho: f64) -> f64 {
-    let value = |(v, k, q)| finite_or_nan(R * (v + k * k / q));
-    permitted(t, rho).and_then(|s| stability_of(&s)).map_or(f64::NAN, value)
+pub extern "C" fn rust_isobaric(number: u32, t: f64, rho: f64) -> f64 {
+    permitted(number, t, rho).map_or(f64::NAN, |s| isobaric_of(&s))
 }
 
 #[no_mangle]
-pub extern "C" fn rust_sound_speed(t: f64, rho: f64) -> f64 {
-    let value = |(v, k, q)| root((R * t) / M * (q + k * k / v));
-    permitted(t, rho).and_then(|s| stability_of(&s)).map_or(f64::NAN, value)
+pub extern "C" fn rust_sound_speed(number: u32, t: f64, rho: f64) -> f64 {
+    permitted(number, t, rho).map_or(f64::NAN, |s| sound_speed_of(&s))
+}
+
+fn isotherm_total(fluid: &'static Fluid, t: f64, densities: &[f64]) -> f64 {
+    let kept = keep(fluid, t);
+    let mut total = 0.0;
+    for &rho in densities {
+        total += pressure_at(&kept, rho);
+    }
+    total
 }
 
 /// The sum of the pressures at T and each of the densities.
@@ -229,11 +257,7 @@ pub extern "C" fn rust_sound_speed(t: f64, rho: f64) -> f64 {
 ///
 /// `densities` points to `count` numbers.
 #[no_mangle]
-pub unsafe extern "C" fn rust_isotherm(t: f64, densities: *const f64, count: usize) -> f64 {
-    let kept = keep(t);
-    let mut total = 0.0;
-    for &rho in core::slice::from_raw_parts(densities, count) {
-        total += pressure_at(&kept, rho);
-    }
-    total
+pub unsafe extern "C" fn rust_isotherm(number: u32, t: f64, densities: *const f64, count: usize) -> f64 {
+    let densities = core::slice::from_raw_parts(densities, count);
+    fluid_numbered(number).map_or(f64::NAN, |fluid| isotherm_total(fluid, t, densities))
 }

@@ -16,21 +16,22 @@ static double X_of(const struct row *row, double delta, double tau) {
     }
 }
 
-static struct state state_at(double T, double rho) {
-    struct state s = {.T = T, .rho = rho, .tau = Tc / T, .delta = rho / rhoc};
+static struct state state_at(const struct fluid *fluid, double T, double rho) {
+    struct state s = {.fluid = fluid, .T = T, .rho = rho, .tau = fluid->Tc / T, .delta = rho / fluid->rhoc};
     s.ln_tau = ln_of(s.tau);
     for (int k = 0; k < ROWS; k++) {
-        double power = exp_of(rows[k].t * s.ln_tau);
-        s.sums = row_added(s.sums, &rows[k], s.delta, s.tau, power, X_of(&rows[k], s.delta, s.tau));
+        const struct row *row = &fluid->rows[k];
+        double power = exp_of(row->t * s.ln_tau);
+        s.sums = row_added(s.sums, row, s.delta, s.tau, power, X_of(row, s.delta, s.tau));
     }
     return s;
 }
 
-static double isotherm_total(double T, const double *densities, size_t count) {
+static double isotherm_total(const struct fluid *fluid, double T, const double *densities, size_t count) {
     double total = 0.0;
     for (size_t i = 0; i < count; i++) {
-        struct state s = state_at(T, densities[i]);
-        total += pressure_of(s.T, s.rho, s.sums.s1);
+        struct state s = state_at(fluid, T, densities[i]);
+        total += state_pressure(&s);
     }
     return total;
 }

@@ -21,39 +21,53 @@ static uint32_t put_number(uint8_t *out, double number) {
     return 0;
 }
 
+/* A mark's first letter names the fluid: the place is the fluid's number. */
+static const char letters[FLUIDS] = {'T', 'F'};
+
+/* FLUIDS where it names none. */
+static uint32_t number_lettered(char letter) {
+    uint32_t number = 0;
+    while (number < FLUIDS && letters[number] != letter)
+        number++;
+    return number;
+}
+
 /* The search's own refusals, 8 and 12, are met by no record. */
-static uint32_t search(double T, double P, int above, uint8_t *out) {
-    double rho = NAMED(plain)(T, P, TOP, (uint32_t)above);
+static uint32_t search(uint32_t number, double T, double P, int above, uint8_t *out) {
+    double rho = NAMED(plain)(number, T, P, fluids[number].top, (uint32_t)above);
     return isnan(rho) ? 8 : put_number(out, rho);
 }
 
-static uint32_t input_code(double T, double x, double least, double greatest, uint32_t outside) {
+static uint32_t input_code(const struct fluid *fluid, double T, double x, const struct range *second, uint32_t outside) {
     if (!isfinite(T) || !isfinite(x))
         return 2;
-    if (!(least_T <= T && T <= greatest_T))
+    if (!in_range(&fluid->T, T))
         return 3;
-    return least <= x && x <= greatest ? 0 : outside;
+    return in_range(second, x) ? 0 : outside;
 }
 
-static uint32_t work(char mark, double T, double x, uint8_t *out) {
-    if (mark != 'D')
-        return search(T, x, mark == 'A', out);
-    struct state s = state_at(T, worked(x));
-    double p = pressure_of(s.T, s.rho, s.sums.s1);
+static uint32_t work(uint32_t number, char kind, double T, double x, uint8_t *out) {
+    if (kind != 'D')
+        return search(number, T, x, kind == 'A', out);
+    struct state s = state_at(&fluids[number], T, worked(x));
+    double p = state_pressure(&s);
     return isnan(p) ? 12 : put_number(out, p);
 }
 
 uint32_t NAMED(answer)(const uint8_t *record, size_t record_len, uint8_t *out, size_t out_len) {
     if (record_len != 18)
         return 15;
-    char mark = (char)record[1];
-    if (record[0] != 'T' || (mark != 'D' && mark != 'B' && mark != 'A' && mark != 'P' && mark != 'N'))
+    uint32_t number = number_lettered((char)record[0]);
+    char kind = (char)record[1];
+    if (number == FLUIDS || (kind != 'D' && kind != 'B' && kind != 'A' && kind != 'P' && kind != 'N'))
         return 14;
-    if (mark == 'N')
+    if (kind == 'N')
         return 1;
+    const struct fluid *fluid = &fluids[number];
     double T = number_at(record + 2), x = number_at(record + 10);
-    uint32_t code = mark == 'D' ? input_code(T, x, least_rho, greatest_rho, 4) : input_code(T, x, least_P, greatest_P, 5);
+    uint32_t code =
+        kind == 'D' ? input_code(fluid, T, x, &fluid->rho, 4) : input_code(fluid, T, x, &fluid->P, 5);
     if (code != 0)
         return code;
-    return out_len < 8 ? 7 : work(mark, T, x, out);
+    return out_len < 8 ? 7 : work(number, kind, T, x, out);
 }

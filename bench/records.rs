@@ -1,7 +1,7 @@
 //! The C call in Rust, in the package's form: a record read, its inputs tested, the pressure worked or the density
 //! searched.
-use super::{pressure_of, state_at};
-use crate::r245ca::{GREATEST_P, GREATEST_RHO, GREATEST_T, LEAST_P, LEAST_RHO, LEAST_T, TOP};
+use super::{state_at, state_pressure};
+use crate::fluids::{fluid_numbered, Fluid, Range};
 use crate::searches::rust_plain;
 
 fn finite(x: f64) -> Result<f64, u32> {
@@ -13,43 +13,53 @@ fn finite(x: f64) -> Result<f64, u32> {
 }
 
 /// The search's own refusals, 8 and 12, are met by no record.
-fn search(t: f64, p: f64, above: bool) -> Result<f64, u32> {
-    finite(rust_plain(t, p, TOP, u32::from(above))).map_err(|_| 8)
+fn search(number: u32, fluid: &Fluid, t: f64, p: f64, above: bool) -> Result<f64, u32> {
+    finite(rust_plain(number, t, p, fluid.top, u32::from(above))).map_err(|_| 8)
 }
 
-fn pressure(t: f64, rho: f64) -> Result<f64, u32> {
-    let s = state_at(t, if rho == 0.0 { 0.0 } else { rho });
-    finite(pressure_of(s.t, s.rho, s.sums.s1))
+fn pressure(fluid: &'static Fluid, t: f64, rho: f64) -> Result<f64, u32> {
+    finite(state_pressure(&state_at(fluid, t, if rho == 0.0 { 0.0 } else { rho })))
 }
 
-fn tested(t: f64, x: f64, second: core::ops::RangeInclusive<f64>, outside: u32) -> Result<(), u32> {
+fn tested(fluid: &Fluid, t: f64, x: f64, second: &Range, outside: u32) -> Result<(), u32> {
     if !t.is_finite() || !x.is_finite() {
         Err(2)
-    } else if !(LEAST_T..=GREATEST_T).contains(&t) {
+    } else if !fluid.t.has(t) {
         Err(3)
-    } else if !second.contains(&x) {
+    } else if !second.has(x) {
         Err(outside)
     } else {
         Ok(())
     }
 }
 
+/// A mark's first letter names the fluid.
+fn number_lettered(letter: u8) -> Result<u32, u32> {
+    match letter {
+        b'T' => Ok(0),
+        b'F' => Ok(1),
+        _ => Err(14),
+    }
+}
+
 fn answered(record: &[u8], room: usize) -> Result<f64, u32> {
     let record: &[u8; 18] = record.try_into().map_err(|_| 15u32)?;
-    let number = |from: usize| f64::from_le_bytes(core::array::from_fn(|k| record[from + k]));
-    let (t, x) = (number(2), number(10));
-    match &record[..2] {
-        b"TD" => tested(t, x, LEAST_RHO..=GREATEST_RHO, 4)?,
-        b"TB" | b"TA" | b"TP" => tested(t, x, LEAST_P..=GREATEST_P, 5)?,
-        b"TN" => return Err(1),
+    let bits = |from: usize| f64::from_le_bytes(core::array::from_fn(|k| record[from + k]));
+    let (t, x) = (bits(2), bits(10));
+    let number = number_lettered(record[0])?;
+    let fluid = fluid_numbered(number).ok_or(14u32)?;
+    match record[1] {
+        b'D' => tested(fluid, t, x, &fluid.rho, 4)?,
+        b'B' | b'A' | b'P' => tested(fluid, t, x, &fluid.p, 5)?,
+        b'N' => return Err(1),
         _ => return Err(14),
     }
     if room < 8 {
         return Err(7);
     }
     match record[1] {
-        b'D' => pressure(t, x),
-        side => search(t, x, side == b'A'),
+        b'D' => pressure(fluid, t, x),
+        side => search(number, fluid, t, x, side == b'A'),
     }
 }
 

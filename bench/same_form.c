@@ -5,6 +5,7 @@
 #include "equation.h"
 
 struct kept {
+    const struct fluid *fluid;
     double T, tau, ln_tau;
     double powers[ROWS], bells[ROWS];
 };
@@ -13,9 +14,11 @@ static double bell_part(const struct row *row, double tau) {
     return row->kind == BELL ? row->beta * (tau - row->gamma) * (tau - row->gamma) : 0.0;
 }
 
-static void keep(struct kept *kept, double T) {
+static void keep(struct kept *kept, const struct fluid *fluid, double T) {
+    const struct row *rows = fluid->rows;
+    kept->fluid = fluid;
     kept->T = T;
-    kept->tau = Tc / T;
+    kept->tau = fluid->Tc / T;
     kept->ln_tau = ln_of(kept->tau);
     for (int k = 0; k < ROWS; k++)
         kept->powers[k] = rows[k].t * kept->ln_tau;
@@ -38,6 +41,7 @@ static inline double first_X(const struct row *row, const double second[LANES]) 
 }
 
 static struct sums sums_at(const struct kept *kept, double delta) {
+    const struct row *rows = kept->fluid->rows;
     double X[ROWS];
     double *second = X + LANES;
     for (int k = 0; k < LANES; k++)
@@ -51,19 +55,25 @@ static struct sums sums_at(const struct kept *kept, double delta) {
     return s;
 }
 
-static struct state state_at(double T, double rho) {
+static struct state state_at(const struct fluid *fluid, double T, double rho) {
     struct kept kept;
-    keep(&kept, T);
-    double delta = rho / rhoc;
-    return (struct state){T, rho, kept.tau, kept.ln_tau, delta, sums_at(&kept, delta)};
+    keep(&kept, fluid, T);
+    double delta = rho / fluid->rhoc;
+    return (struct state){fluid, T, rho, kept.tau, kept.ln_tau, delta, sums_at(&kept, delta)};
 }
 
-static double isotherm_total(double T, const double *densities, size_t count) {
+/* The pressure at a kept temperature. */
+static double pressure_at(const struct kept *kept, double rho) {
+    const struct fluid *fluid = kept->fluid;
+    return pressure_of(fluid->R, kept->T, rho, sums_at(kept, rho / fluid->rhoc).s1);
+}
+
+static double isotherm_total(const struct fluid *fluid, double T, const double *densities, size_t count) {
     struct kept kept;
-    keep(&kept, T);
+    keep(&kept, fluid, T);
     double total = 0.0;
     for (size_t i = 0; i < count; i++)
-        total += pressure_of(T, densities[i], sums_at(&kept, densities[i] / rhoc).s1);
+        total += pressure_at(&kept, densities[i]);
     return total;
 }
 

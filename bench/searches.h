@@ -1,6 +1,6 @@
 /* Density from pressure in the package's steps, over c cells: the plain search, the preparation of two lists, and the quick search.
  * Side 0 is from below, any other from above; a refusal is a NaN. Included by a form that has defined `struct kept`, `keep` and
- * `sums_at` before. */
+ * `pressure_at` before. */
 #include <stdint.h>
 
 #include "named.h"
@@ -12,20 +12,20 @@ static double step_density(size_t k) {
 }
 
 static double step_pressure(const struct kept *kept, size_t k) {
-    double rho = step_density(k);
-    return pressure_of(kept->T, rho, sums_at(kept, rho / rhoc).s1);
+    return pressure_at(kept, step_density(k));
 }
 
 static double end_pressure(const struct kept *kept, size_t j) {
     return step_pressure(kept, j << HALVINGS);
 }
 
-static int permitted_cells(size_t c) {
-    return 1 <= c && c <= TOP;
+static int permitted_cells(const struct fluid *fluid, size_t c) {
+    return 1 <= c && c <= fluid->top;
 }
 
-static int permitted_search(double T, double P, size_t c) {
-    return least_T <= T && T <= greatest_T && least_P <= P && P <= greatest_P && permitted_cells(c);
+/* Whether there is a fluid, and T, P and c are in its ranges. */
+static int permitted_search(const struct fluid *fluid, double T, double P, size_t c) {
+    return fluid && in_range(&fluid->T, T) && in_range(&fluid->P, P) && permitted_cells(fluid, c);
 }
 
 /* ---- plain */
@@ -70,19 +70,20 @@ static double plain_from_above(const struct kept *kept, double P, size_t c) {
     return NAN;
 }
 
-double NAMED(plain)(double T, double P, size_t c, uint32_t side);
+double NAMED(plain)(uint32_t number, double T, double P, size_t c, uint32_t side);
 
-double NAMED(plain)(double T, double P, size_t c, uint32_t side) {
-    if (!permitted_search(T, P, c))
+double NAMED(plain)(uint32_t number, double T, double P, size_t c, uint32_t side) {
+    const struct fluid *fluid = fluid_numbered(number);
+    if (!permitted_search(fluid, T, P, c))
         return NAN;
     struct kept kept;
-    keep(&kept, T);
+    keep(&kept, fluid, T);
     return side == 0 ? plain_from_below(&kept, P, c) : plain_from_above(&kept, P, c);
 }
 
 /* ---- preparing */
 
-uint32_t NAMED(prepare)(double T, size_t c, double *G, size_t places_G, double *L, size_t places_L);
+uint32_t NAMED(prepare)(uint32_t number, double T, size_t c, double *G, size_t places_G, double *L, size_t places_L);
 
 static int filled(const struct kept *kept, size_t c, double *G, double *L) {
     for (size_t j = 0; j <= c; j++) {
@@ -94,17 +95,20 @@ static int filled(const struct kept *kept, size_t c, double *G, double *L) {
     return 1;
 }
 
-uint32_t NAMED(prepare)(double T, size_t c, double *G, size_t places_G, double *L, size_t places_L) {
+uint32_t NAMED(prepare)(uint32_t number, double T, size_t c, double *G, size_t places_G, double *L, size_t places_L) {
+    const struct fluid *fluid = fluid_numbered(number);
+    if (!fluid)
+        return 17;
     if (!isfinite(T))
         return 2;
-    if (!(least_T <= T && T <= greatest_T))
+    if (!in_range(&fluid->T, T))
         return 3;
-    if (!permitted_cells(c))
+    if (!permitted_cells(fluid, c))
         return 6;
     if (places_G <= c || places_L <= c)
         return 7;
     struct kept kept;
-    keep(&kept, T);
+    keep(&kept, fluid, T);
     if (!filled(&kept, c, G, L)) {
         for (size_t j = 0; j <= c; j++)
             G[j] = L[j] = 0.0;
@@ -119,8 +123,8 @@ uint32_t NAMED(prepare)(double T, size_t c, double *G, size_t places_G, double *
 
 /* ---- quick */
 
-double NAMED(quick)(double T, double P, size_t c, uint32_t side, const double *G, size_t places_G, const double *L,
-                    size_t places_L);
+double NAMED(quick)(uint32_t number, double T, double P, size_t c, uint32_t side, const double *G, size_t places_G,
+                    const double *L, size_t places_L);
 
 static size_t halved_places(const double *list, double P, size_t c) {
     size_t a = 0, b = c;
@@ -134,13 +138,14 @@ static size_t halved_places(const double *list, double P, size_t c) {
     return a;
 }
 
-double NAMED(quick)(double T, double P, size_t c, uint32_t side, const double *G, size_t places_G, const double *L,
-                    size_t places_L) {
+double NAMED(quick)(uint32_t number, double T, double P, size_t c, uint32_t side, const double *G, size_t places_G,
+                    const double *L, size_t places_L) {
+    const struct fluid *fluid = fluid_numbered(number);
     const double *list = side == 0 ? G : L;
-    if (!permitted_search(T, P, c) || places_G <= c || places_L <= c || !(list[c] > P))
+    if (!permitted_search(fluid, T, P, c) || places_G <= c || places_L <= c || !(list[c] > P))
         return NAN;
     struct kept kept;
-    keep(&kept, T);
+    keep(&kept, fluid, T);
     size_t a = halved_places(list, P, c);
     double low = end_pressure(&kept, a), high = end_pressure(&kept, a + 1);
     return low <= P && P < high ? in_cell(&kept, P, a) : NAN;

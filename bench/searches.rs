@@ -1,7 +1,7 @@
 //! Density from pressure in Rust in the package's steps, over c cells: the plain search, the preparation of two lists, and the
 //! quick search. Side 0 is from below, any other from above; a refusal is a NaN.
 use crate::equation::{keep, pressure_at, Kept};
-use crate::r245ca::{GREATEST_P, GREATEST_T, LEAST_P, LEAST_T, TOP};
+use crate::fluids::{fluid_numbered, Fluid};
 
 const HALVINGS: u32 = 23;
 
@@ -17,12 +17,13 @@ fn end_pressure(kept: &Kept, j: usize) -> f64 {
     step_pressure(kept, j << HALVINGS)
 }
 
-fn permitted_cells(c: usize) -> bool {
-    (1..=TOP).contains(&c)
+fn permitted_cells(fluid: &Fluid, c: usize) -> bool {
+    1 <= c && c <= fluid.top
 }
 
-fn permitted(t: f64, p: f64, c: usize) -> bool {
-    (LEAST_T..=GREATEST_T).contains(&t) && (LEAST_P..=GREATEST_P).contains(&p) && permitted_cells(c)
+/// The fluid of a number where there is one, and T, P and c are in its ranges.
+fn permitted(number: u32, t: f64, p: f64, c: usize) -> Option<&'static Fluid> {
+    fluid_numbered(number).filter(|fluid| fluid.t.has(t) && fluid.p.has(p) && permitted_cells(fluid, c))
 }
 
 fn in_cell(kept: &Kept, p: f64, cell: usize) -> f64 {
@@ -77,11 +78,11 @@ fn plain_from_above(kept: &Kept, p: f64, c: usize) -> f64 {
 }
 
 #[no_mangle]
-pub extern "C" fn rust_plain(t: f64, p: f64, c: usize, side: u32) -> f64 {
-    if !permitted(t, p, c) {
+pub extern "C" fn rust_plain(number: u32, t: f64, p: f64, c: usize, side: u32) -> f64 {
+    let Some(fluid) = permitted(number, t, p, c) else {
         return f64::NAN;
-    }
-    let kept = keep(t);
+    };
+    let kept = keep(fluid, t);
     if side == 0 {
         plain_from_below(&kept, p, c)
     } else {
@@ -102,20 +103,23 @@ fn filled(kept: &Kept, c: usize, greatest: &mut [f64], least: &mut [f64]) -> boo
     true
 }
 
-fn prepared(t: f64, c: usize, greatest: &mut [f64], least: &mut [f64]) -> u32 {
+fn prepared(number: u32, t: f64, c: usize, greatest: &mut [f64], least: &mut [f64]) -> u32 {
+    let Some(fluid) = fluid_numbered(number) else {
+        return 17;
+    };
     if !t.is_finite() {
         return 2;
     }
-    if !(LEAST_T..=GREATEST_T).contains(&t) {
+    if !fluid.t.has(t) {
         return 3;
     }
-    if !permitted_cells(c) {
+    if !permitted_cells(fluid, c) {
         return 6;
     }
     if greatest.len() <= c || least.len() <= c {
         return 7;
     }
-    if !filled(&keep(t), c, greatest, least) {
+    if !filled(&keep(fluid, t), c, greatest, least) {
         greatest.iter_mut().take(c + 1).for_each(|g| *g = 0.0);
         least.iter_mut().take(c + 1).for_each(|l| *l = 0.0);
         return 12;
@@ -137,8 +141,17 @@ fn prepared(t: f64, c: usize, greatest: &mut [f64], least: &mut [f64]) -> u32 {
 ///
 /// The lists point to as many numbers as they have places, and do not overlap.
 #[no_mangle]
-pub unsafe extern "C" fn rust_prepare(t: f64, c: usize, g: *mut f64, places_g: usize, l: *mut f64, places_l: usize) -> u32 {
-    prepared(t, c, core::slice::from_raw_parts_mut(g, places_g), core::slice::from_raw_parts_mut(l, places_l))
+pub unsafe extern "C" fn rust_prepare(
+    number: u32,
+    t: f64,
+    c: usize,
+    g: *mut f64,
+    places_g: usize,
+    l: *mut f64,
+    places_l: usize,
+) -> u32 {
+    let greatest = core::slice::from_raw_parts_mut(g, places_g);
+    prepared(number, t, c, greatest, core::slice::from_raw_parts_mut(l, places_l))
 }
 
 fn is_above(list: &[f64], place: usize, p: f64) -> bool {
@@ -158,12 +171,15 @@ fn halved_places(list: &[f64], p: f64, c: usize) -> usize {
     a
 }
 
-fn quick(t: f64, p: f64, c: usize, side: u32, greatest: &[f64], least: &[f64]) -> f64 {
+fn quick(number: u32, t: f64, p: f64, c: usize, side: u32, greatest: &[f64], least: &[f64]) -> f64 {
     let list = if side == 0 { greatest } else { least };
-    if !permitted(t, p, c) || greatest.len() <= c || least.len() <= c || !is_above(list, c, p) {
+    let Some(fluid) = permitted(number, t, p, c) else {
+        return f64::NAN;
+    };
+    if greatest.len() <= c || least.len() <= c || !is_above(list, c, p) {
         return f64::NAN;
     }
-    let kept = keep(t);
+    let kept = keep(fluid, t);
     let a = halved_places(list, p, c);
     let (low, high) = (end_pressure(&kept, a), end_pressure(&kept, a + 1));
     if low <= p && p < high {
@@ -178,6 +194,7 @@ fn quick(t: f64, p: f64, c: usize, side: u32, greatest: &[f64], least: &[f64]) -
 /// The lists point to as many numbers as they have places.
 #[no_mangle]
 pub unsafe extern "C" fn rust_quick(
+    number: u32,
     t: f64,
     p: f64,
     c: usize,
@@ -188,5 +205,5 @@ pub unsafe extern "C" fn rust_quick(
     places_l: usize,
 ) -> f64 {
     let greatest = core::slice::from_raw_parts(g, places_g);
-    quick(t, p, c, side, greatest, core::slice::from_raw_parts(l, places_l))
+    quick(number, t, p, c, side, greatest, core::slice::from_raw_parts(l, places_l))
 }

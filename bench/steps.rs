@@ -2,7 +2,7 @@
 #![no_std]
 
 mod equation;
-mod r245ca;
+mod fluids;
 mod searches;
 
 fn finite_or_nan(x: f64) -> f64 {

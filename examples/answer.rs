@@ -1,4 +1,4 @@
-//! Asks Verriblom four records by its C call and prints what it answers.
+//! Asks Verriblom records of both fluids by its C call and prints what it answers.
 
 extern "C" {
     fn verriblom_answer(record: *const u8, record_len: usize, out: *mut u8, out_len: usize) -> u32;
@@ -34,4 +34,9 @@ fn main() {
     ask(b"TB", 300.0, 50000.0, "mol/dm3");
     ask(b"TA", 300.0, 50000.0, "mol/dm3");
     ask(b"TA", 500.0, 50000.0, "mol/dm3");
+    ask(b"FD", 250.0, 11.0, "Pa");
+    ask(b"FB", 300.0, 50000.0, "mol/dm3");
+    ask(b"FA", 300.0, 50000.0, "mol/dm3");
+    ask(b"FA", 300.0, 150000000.0, "mol/dm3");
+    ask(b"FN", 0.0, 0.0, "");
 }

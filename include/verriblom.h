@@ -1,15 +1,17 @@
 /*
- * Verriblom: R-245ca, one record at a time.
+ * Verriblom: R-245ca and R-245fa, one record at a time.
  *
- * A record is 18 bytes: a two-letter mark and two binary64 numbers, the lowest byte first.
+ * A record is 18 bytes: a two-letter mark and two binary64 numbers, the lowest byte first. The
+ * mark's first letter says which fluid is asked, T for R-245ca and F for R-245fa; the second says
+ * what the numbers are.
  *
- *     TD   temperature, density     asks for the pressure
- *     TB   temperature, pressure    asks for the density, searched from below (the vapour side)
- *     TA   temperature, pressure    asks for the density, searched from above (the liquid side)
- *     TP   temperature, pressure    no side given: taken from below
- *     TN   no reading: refused with 1, its sixteen bytes are not looked at
+ *     TD FD   temperature, density     asks for the pressure
+ *     TB FB   temperature, pressure    asks for the density, searched from below (the vapour side)
+ *     TA FA   temperature, pressure    asks for the density, searched from above (the liquid side)
+ *     TP FP   temperature, pressure    no side given: taken from below
+ *     TN FN   no reading: refused with 1, its sixteen bytes are not looked at
  *
- * Units: K, mol/dm3, Pa. Ranges, ends included: 196 to 450 K, 0 to 13 mol/dm3, 1 to 10,000,000 Pa.
+ * Units: K, mol/dm3, Pa. Each fluid has its own ranges, ends included (README.md).
  */
 #ifndef VERRIBLOM_H
 #define VERRIBLOM_H
@@ -24,43 +26,55 @@ extern "C" {
 #define VERRIBLOM_RECORD_BYTES 18
 #define VERRIBLOM_NUMBER_BYTES 8
 
+/* R-245ca */
 #define VERRIBLOM_MARK_TEMPERATURE_DENSITY "TD"
 #define VERRIBLOM_MARK_FROM_BELOW "TB"
 #define VERRIBLOM_MARK_FROM_ABOVE "TA"
 #define VERRIBLOM_MARK_NO_SIDE "TP"
 #define VERRIBLOM_MARK_NO_READING "TN"
 
+/* R-245fa */
+#define VERRIBLOM_R245FA_MARK_TEMPERATURE_DENSITY "FD"
+#define VERRIBLOM_R245FA_MARK_FROM_BELOW "FB"
+#define VERRIBLOM_R245FA_MARK_FROM_ABOVE "FA"
+#define VERRIBLOM_R245FA_MARK_NO_SIDE "FP"
+#define VERRIBLOM_R245FA_MARK_NO_READING "FN"
+
 /*
  * What verriblom_answer returns. Where several refusals apply the first of 15, 14, 1, 2, 3, 4, 5, 7
- * counts. "Tested" says which records are tested for the code, "can occur" which ones can meet it.
- * 8, 9 and 12 are tested as the work goes on, and it is proved that no record meets them; nor is
- * any number returned that does not stand here (docs/NO-ANSWER.md).
+ * counts. "Tested" says which records are tested for the code, "can occur" which ones can meet it,
+ * by the mark's second letter; N has no reading, and both fluids are alike in this. 8, 9 and 12
+ * are tested as the work goes on, and it is proved that no record meets them; nor is any number
+ * returned that does not stand here (docs/NO-ANSWER.md).
  */
 enum verriblom_code {
-    /* the first eight bytes of the output hold the number. Can occur: TD, TB, TA, TP */
+    /* the first eight bytes of the output hold the number. Can occur: D, B, A, P */
     VERRIBLOM_ANSWERED = 0,
-    /* the record says "no reading". Tested: every record of 18 bytes. Can occur: TN */
+    /* the record says "no reading". Tested: every record of 18 bytes. Can occur: N */
     VERRIBLOM_NO_READING = 1,
-    /* an input number is NaN or infinite. Tested: TD, TB, TA, TP. Can occur: the same */
+    /* an input number is NaN or infinite. Tested: D, B, A, P. Can occur: the same */
     VERRIBLOM_INPUT_NOT_FINITE = 2,
-    /* the temperature is outside 196 to 450 K. Tested: TD, TB, TA, TP. Can occur: the same */
+    /* the temperature is outside the fluid's range. Tested: D, B, A, P. Can occur: the same */
     VERRIBLOM_TEMPERATURE_OUTSIDE = 3,
-    /* the density is outside 0 to 13 mol/dm3. Tested: TD. Can occur: the same */
+    /* the density is outside the fluid's range. Tested: D. Can occur: the same */
     VERRIBLOM_DENSITY_OUTSIDE = 4,
-    /* the pressure is outside 1 to 10,000,000 Pa. Tested: TB, TA, TP. Can occur: the same */
+    /* the pressure is outside the fluid's range. Tested: B, A, P. Can occur: the same */
     VERRIBLOM_PRESSURE_OUTSIDE = 5,
-    /* the output has less than eight bytes. Tested: TD, TB, TA, TP. Can occur: the same */
+    /* the output has less than eight bytes. Tested: D, B, A, P. Can occur: the same */
     VERRIBLOM_OUTPUT_TOO_SHORT = 7,
-    /* no cell of the search has the pressure. Tested: TB, TA, TP. Can occur: never */
+    /* no cell of the search has the pressure. Tested: B, A, P. Can occur: never */
     VERRIBLOM_NO_CELL = 8,
-    /* 23 halvings did not end at neighbours. Tested: TB, TA, TP. Can occur: never */
+    /* 23 halvings did not end at neighbours. Tested: B, A, P. Can occur: never */
     VERRIBLOM_NOT_NEIGHBOURS = 9,
-    /* a worked value is not finite. Tested: TD, TB, TA, TP. Can occur: never */
+    /* a worked value is not finite. Tested: D, B, A, P. Can occur: never */
     VERRIBLOM_WORK_NOT_FINITE = 12,
     /* the first two bytes are no mark. Tested: every record of 18 bytes. Can occur: any other mark */
     VERRIBLOM_UNKNOWN_MARK = 14,
     /* the record has not exactly 18 bytes. Tested: every record. Can occur: any other length */
-    VERRIBLOM_RECORD_CUT_SHORT = 15
+    VERRIBLOM_RECORD_CUT_SHORT = 15,
+    /* the fluid's number is unknown. Tested: no record, as every known mark names a fluid. Can
+     * occur: never */
+    VERRIBLOM_UNKNOWN_FLUID = 17
 };
 
 /*

@@ -1,16 +1,18 @@
-"""R-245ca's pressure and density by Verriblom's C call.
+"""R-245ca's and R-245fa's pressure and density by Verriblom's C call.
 
 The shared library is `libverriblom.so` beside this file, or the file that the
 environment variable VERRIBLOM_LIBRARY names.
 
 >>> pressure(250.0, 0.0)
 0.0
->>> answer(b"TN" + bytes(16))
+>>> round(pressure(250.0, 11.0, fluid=Fluid.R245FA))
+7454017
+>>> answer(b"FN" + bytes(16))
 Traceback (most recent call last):
 verriblom.Refused: 1, NO_READING: the record says "no reading"
 
-Units: K, mol/dm³, Pa. Ranges, ends included: 196 to 450 K, 0 to 13 mol/dm³,
-1 to 10,000,000 Pa.
+Units: K, mol/dm³, Pa. Each fluid has its own ranges, ends included
+(README.md).
 """
 
 from __future__ import annotations
@@ -21,17 +23,33 @@ import os
 import pathlib
 import struct
 
-__all__ = ["Mark", "Refusal", "Refused", "answer", "density", "pressure", "record"]
+__all__ = ["Fluid", "Mark", "Refusal", "Refused", "answer", "density", "pressure", "record"]
+
+
+class Fluid(enum.Enum):
+    """The fluids by the first letter of their marks."""
+
+    R245CA = b"T"
+    R245FA = b"F"
 
 
 class Mark(enum.Enum):
-    """The two letters at a record's front."""
+    """The two letters at a record's front; the first five are R-245ca's."""
 
     TEMPERATURE_DENSITY = b"TD"
     FROM_BELOW = b"TB"
     FROM_ABOVE = b"TA"
     NO_SIDE = b"TP"
     NO_READING = b"TN"
+    R245FA_TEMPERATURE_DENSITY = b"FD"
+    R245FA_FROM_BELOW = b"FB"
+    R245FA_FROM_ABOVE = b"FA"
+    R245FA_NO_SIDE = b"FP"
+    R245FA_NO_READING = b"FN"
+
+    def of(self, fluid: Fluid) -> Mark:
+        """The mark that asks the same of the fluid."""
+        return Mark(fluid.value + self.value[1:])
 
 
 class Refusal(enum.IntEnum):
@@ -45,31 +63,34 @@ class Refusal(enum.IntEnum):
 
     meaning: str
 
-    # Of each refusal: which records are tested for it, and which ones can meet it. That 8, 9 and 12
-    # never occur, nor any number that is not here, is proved (docs/NO-ANSWER.md).
+    # Of each refusal: which records are tested for it, and which ones can meet it, by the mark's second
+    # letter; N has no reading, and both fluids are alike in this. That 8, 9 and 12 never occur, nor any
+    # number that is not here, is proved (docs/NO-ANSWER.md).
 
-    # tested: every record of 18 bytes; can occur: TN
+    # tested: every record of 18 bytes; can occur: N
     NO_READING = 1, 'the record says "no reading"'
-    # tested: TD, TB, TA, TP; can occur: the same
+    # tested: D, B, A, P; can occur: the same
     INPUT_NOT_FINITE = 2, "an input number is NaN or infinite"
-    # tested: TD, TB, TA, TP; can occur: the same
-    TEMPERATURE_OUTSIDE = 3, "the temperature is outside 196 to 450 K"
-    # tested: TD; can occur: the same
-    DENSITY_OUTSIDE = 4, "the density is outside 0 to 13 mol/dm³"
-    # tested: TB, TA, TP; can occur: the same
-    PRESSURE_OUTSIDE = 5, "the pressure is outside 1 to 10,000,000 Pa"
-    # tested: TD, TB, TA, TP; can occur: the same, but never here, where the output has eight bytes
+    # tested: D, B, A, P; can occur: the same
+    TEMPERATURE_OUTSIDE = 3, "the temperature is outside the fluid's range"
+    # tested: D; can occur: the same
+    DENSITY_OUTSIDE = 4, "the density is outside the fluid's range"
+    # tested: B, A, P; can occur: the same
+    PRESSURE_OUTSIDE = 5, "the pressure is outside the fluid's range"
+    # tested: D, B, A, P; can occur: the same, but never here, where the output has eight bytes
     OUTPUT_TOO_SHORT = 7, "the output has less than eight bytes"
-    # tested: TB, TA, TP; can occur: never
+    # tested: B, A, P; can occur: never
     NO_CELL = 8, "no cell of the search has the pressure"
-    # tested: TB, TA, TP; can occur: never
+    # tested: B, A, P; can occur: never
     NOT_NEIGHBOURS = 9, "23 halvings did not end at neighbours"
-    # tested: TD, TB, TA, TP; can occur: never
+    # tested: D, B, A, P; can occur: never
     WORK_NOT_FINITE = 12, "a worked value is not finite"
     # tested: every record of 18 bytes; can occur: any other mark
     UNKNOWN_MARK = 14, "the first two bytes are no mark"
     # tested: every record; can occur: any other length
     RECORD_CUT_SHORT = 15, "the record has not exactly 18 bytes"
+    # tested: no record, as every known mark names a fluid; can occur: never
+    UNKNOWN_FLUID = 17, "the fluid's number is unknown"
 
 
 class Refused(Exception):
@@ -106,12 +127,14 @@ def answer(marked: bytes) -> float:
     return struct.unpack("<d", out.raw)[0]
 
 
-def pressure(temperature: float, density: float) -> float:
+def pressure(temperature: float, density: float, *, fluid: Fluid = Fluid.R245CA) -> float:
     """The pressure in Pa at a temperature in K and a density in mol/dm³; raises Refused."""
-    return answer(record(Mark.TEMPERATURE_DENSITY, temperature, density))
+    return answer(record(Mark.TEMPERATURE_DENSITY.of(fluid), temperature, density))
 
 
-def density(temperature: float, pressure: float, side: Mark = Mark.NO_SIDE) -> float:
+def density(
+    temperature: float, pressure: float, side: Mark = Mark.NO_SIDE, *, fluid: Fluid = Fluid.R245CA
+) -> float:
     """The density in mol/dm³ at a temperature in K and a pressure in Pa; raises Refused.
 
     `side` is FROM_BELOW (the vapour side), FROM_ABOVE (the liquid side), or
@@ -119,4 +142,4 @@ def density(temperature: float, pressure: float, side: Mark = Mark.NO_SIDE) -> f
     """
     if side not in (Mark.FROM_BELOW, Mark.FROM_ABOVE, Mark.NO_SIDE):
         raise ValueError(f"{side} is no side")
-    return answer(record(side, temperature, pressure))
+    return answer(record(side.of(fluid), temperature, pressure))

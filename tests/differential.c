@@ -4,11 +4,12 @@
  *
  *     differential PROBE SEED COUNT [WORD...]
  *
- * COUNT questions for each call. A WORD is the number of a call, the name of a
- * group of calls (elementary, properties, estimates, searches), or one of
- * unknown (numbers that are no call), mixed (all calls by turns), second (a
- * call of one number does not look at the second) and pieces (inputs of 0 to 49
- * bytes). Without a WORD everything is asked.
+ * COUNT questions for each call of each fluid. A WORD is the number of a call
+ * of a fluid, the name of a group of calls (elementary, properties, estimates,
+ * searches), or one of unknown (numbers that are no call or ask no fluid), mixed
+ * (all calls of all fluids by turns), second (a call of one number does not look
+ * at the second) and pieces (inputs of 0 to 49 bytes). Without a WORD everything
+ * is asked.
  */
 #include "differential/asked.h"
 #include "generator.h"
@@ -37,9 +38,11 @@ static bool in_group(const struct group *group, const struct call *call)
     return group->first <= call->family && call->family <= group->last;
 }
 
-static void compare_call(struct asked *asked, uint64_t call)
+static void compare_number(struct asked *asked, uint64_t number)
 {
-    compare_stream(asked, known_call(call)->name, &call, 1);
+    char name[NAME_ROOM];
+    name_number(name, number);
+    compare_stream(asked, name, &number, 1);
 }
 
 /* A group without a call would pass in name only. */
@@ -51,14 +54,15 @@ static void expect_calls(struct asked *asked, const char *name, size_t calls)
     record(asked, false);
 }
 
-/* Each call of the group, and their sum. */
+/* Each call of the group for each fluid, and their sum. */
 static void compare_group(struct asked *asked, const struct group *group)
 {
+    struct numbers all = known_numbers();
     size_t calls = 0;
     asked->tally = (struct tally){ 0 };
-    for (size_t i = 0; i < known_calls_count; i++)
-        if (in_group(group, &known_calls[i])) {
-            compare_call(asked, known_calls[i].number);
+    for (size_t i = 0; i < all.count; i++)
+        if (in_group(group, known_call(all.number[i]))) {
+            compare_number(asked, all.number[i]);
             calls++;
         }
     expect_calls(asked, group->name, calls);
@@ -70,25 +74,26 @@ static void compare_group(struct asked *asked, const struct group *group)
 
 static void compare_unknown(struct asked *asked)
 {
-    static const uint64_t unknown[] = { UNKNOWN_CALLS };
-    compare_stream(asked, "unknown calls", unknown, 1);
+    static const uint64_t unknown[] = { UNKNOWN_NUMBERS };
+    compare_stream(asked, "unknown calls and fluids", unknown, 1);
 }
 
 static void compare_mixed(struct asked *asked)
 {
-    uint64_t calls[known_calls_count + 1];
-    for (size_t i = 0; i < known_calls_count; i++)
-        calls[i] = known_calls[i].number;
-    calls[known_calls_count] = UNKNOWN_CALLS;
-    compare_stream(asked, "all calls mixed", calls, known_calls_count + 1);
+    struct numbers all = known_numbers();
+    uint64_t numbers[NUMBERS_ROOM + 1];
+    memcpy(numbers, all.number, sizeof all.number);
+    numbers[all.count] = UNKNOWN_NUMBERS;
+    compare_stream(asked, "all calls of all fluids mixed", numbers, all.count + 1);
 }
 
 static void compare_seconds(struct asked *asked)
 {
+    struct numbers all = known_numbers();
     size_t calls = 0;
-    for (size_t i = 0; i < known_calls_count; i++)
-        if (takes_one_number(&known_calls[i])) {
-            compare_second(asked, known_calls[i].number);
+    for (size_t i = 0; i < all.count; i++)
+        if (takes_one_number(known_call(all.number[i]))) {
+            compare_second(asked, all.number[i]);
             calls++;
         }
     expect_calls(asked, "second number", calls);
@@ -122,7 +127,7 @@ static bool whole_number(const char *text, uint64_t *number)
 /* False where the word names nothing that can be asked. */
 static bool compare_named(struct asked *asked, const char *name)
 {
-    uint64_t call;
+    uint64_t number;
     const struct group *group = group_named(name);
     if (group != NULL)
         compare_group(asked, group);
@@ -134,8 +139,8 @@ static bool compare_named(struct asked *asked, const char *name)
         compare_seconds(asked);
     else if (strcmp(name, "pieces") == 0)
         compare_pieces(asked);
-    else if (whole_number(name, &call) && known_call(call) != NULL)
-        compare_call(asked, call);
+    else if (whole_number(name, &number) && is_known_number(number))
+        compare_number(asked, number);
     else
         return false;
     return true;
@@ -143,7 +148,7 @@ static bool compare_named(struct asked *asked, const char *name)
 
 static int usage(void)
 {
-    fprintf(stderr, "usage: differential PROBE SEED COUNT [CALL|elementary|properties|estimates|"
+    fprintf(stderr, "usage: differential PROBE SEED COUNT [NUMBER|elementary|properties|estimates|"
                     "searches|unknown|mixed|second|pieces]...\n");
     return EXIT_FAILURE;
 }

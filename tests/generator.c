@@ -1,10 +1,39 @@
-/* Takes a call at random and asks it. */
+/* Takes a number at random and asks its call of its fluid. */
 #include "generator.h"
 
 #include "generator/draw.h"
 #include "generator/families.h"
 
-static uint64_t unknown_number(struct generator *g)
+/* No fluid's number, and known ones where a number is cut to 8, 16 or 32 bits. */
+static uint64_t unknown_fluid(struct generator *g)
+{
+    static const uint64_t picked[] = {
+        FLUIDS,
+        FLUIDS + 1,
+        99,
+        (uint64_t)1 << 8,
+        (uint64_t)1 << 16 | 1,
+        (uint64_t)1 << 31,
+        (uint64_t)1 << 32,
+        (uint64_t)1 << 32 | 1,
+        (uint64_t)1 << 40,
+        (uint64_t)1 << 57,
+        (uint64_t)1 << 57 | 1,
+        UINT64_MAX / FLUID_STRIDE - 1,
+    };
+    return picked[below(g, sizeof picked / sizeof *picked)];
+}
+
+/* Any call or none of any fluid or none. */
+static uint64_t composed(struct generator *g)
+{
+    uint64_t fluid = below(g, 2) ? below(g, FLUIDS) : unknown_fluid(g);
+    uint64_t call = below(g, 2) ? below(g, FLUID_STRIDE)
+                                : known_calls[below(g, known_calls_count)].number;
+    return fluid * FLUID_STRIDE + call;
+}
+
+static uint64_t any_number(struct generator *g)
 {
     static const uint64_t picked[] = {
         0,
@@ -15,6 +44,9 @@ static uint64_t unknown_number(struct generator *g)
         29,
         34,
         99,
+        101,
+        102,
+        103,
         (uint64_t)1 << 8 | 1,
         (uint64_t)1 << 8 | 10,
         (uint64_t)1 << 16 | 2,
@@ -25,27 +57,37 @@ static uint64_t unknown_number(struct generator *g)
         (uint64_t)1 << 63 | 20,
         UINT64_MAX,
     };
-    switch (below(g, 3)) {
+    switch (below(g, 4)) {
     case 0:
         return any_bits(g);
     case 1:
-        return below(g, 64);
-    default:
+        return below(g, 3 * FLUID_STRIDE);
+    case 2:
         return picked[below(g, sizeof picked / sizeof *picked)];
+    default:
+        return composed(g);
     }
 }
 
-static struct question unknown(struct generator *g)
+static uint64_t unknown_number(struct generator *g)
 {
-    uint64_t call = unknown_number(g);
-    while (known_call(call) != NULL)
-        call = unknown_number(g);
-    uint64_t first = below(g, 2) ? temperature(g) : any_bits(g);
-    uint64_t second = below(g, 2) ? density(g) : any_bits(g);
-    return (struct question){ .call = call, .first = first, .second = second };
+    uint64_t number = any_number(g);
+    while (is_known_number(number))
+        number = any_number(g);
+    return number;
 }
 
-static struct question arguments(struct generator *g, const struct call *call)
+/* The two numbers are often such that a known call of a known fluid would answer. */
+static struct question unknown(struct generator *g)
+{
+    const struct fluid *fluid = any_fluid(g);
+    uint64_t first = below(g, 2) ? temperature(g, fluid) : any_bits(g);
+    uint64_t second = below(g, 2) ? density(g, fluid) : any_bits(g);
+    return (struct question){ .call = unknown_number(g), .first = first, .second = second };
+}
+
+static struct question arguments(struct generator *g, const struct call *call,
+                                 const struct fluid *fluid)
 {
     uint64_t first;
     switch (call->family) {
@@ -53,28 +95,28 @@ static struct question arguments(struct generator *g, const struct call *call)
         first = elementary_argument(g, call->number);
         return (struct question){ .first = first, .second = any_bits(g) };
     case ESTIMATE:
-        first = estimate_temperature(g);
+        first = estimate_temperature(g, fluid);
         return (struct question){ .first = first, .second = any_bits(g) };
     case PROPERTY:
-        return state(g);
+        return state(g, fluid);
     default:
-        return search(g);
+        return search(g, fluid);
     }
 }
 
-struct generator generator_of(uint64_t seed, const uint64_t *calls, size_t calls_count)
+struct generator generator_of(uint64_t seed, const uint64_t *numbers, size_t numbers_count)
 {
-    struct generator g = { .state = seed, .calls = calls, .calls_count = calls_count };
-    g.T_bits = temperature(&g);
+    struct generator g = { .state = seed, .numbers = numbers, .numbers_count = numbers_count };
+    g.T_bits = temperature(&g, any_fluid(&g));
     return g;
 }
 
 struct question next_question(struct generator *g)
 {
-    uint64_t number = g->calls[below(g, g->calls_count)];
-    if (number == UNKNOWN_CALLS)
+    uint64_t number = g->numbers[below(g, g->numbers_count)];
+    if (number == UNKNOWN_NUMBERS)
         return unknown(g);
-    struct question question = arguments(g, known_call(number));
+    struct question question = arguments(g, known_call(number), fluid_asked(number));
     question.call = number;
     return question;
 }

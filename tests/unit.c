@@ -1,4 +1,4 @@
-/* Tests the independent implementation on facts that 01 and 003 print, and the random questions. */
+/* Tests the independent implementation on facts that 01, 003 and 001 print, and the random questions. */
 #include "unit/check.h"
 
 #include <stdio.h>
@@ -8,6 +8,8 @@ int main(void)
 {
     check_arithmetic();
     check_equation();
+    check_tables();
+    check_stability();
     check_search();
     check_density();
     check_questions();

@@ -66,13 +66,14 @@ static bool is_asked(const struct sheet *sheet, uint64_t call)
     return false;
 }
 
-/* A call that no section asks would be in no vector, and nothing would differ. */
-static bool every_call_is_asked(const struct sheet *sheet)
+/* A call of a fluid that no section asks would be in no vector, and nothing would differ. */
+static bool every_number_is_asked(const struct sheet *sheet)
 {
-    for (size_t i = 0; i < known_calls_count; i++)
-        if (!is_asked(sheet, known_calls[i].number)) {
-            fprintf(stderr, "call %" PRIu64 ", %s, is not asked\n", known_calls[i].number,
-                    known_calls[i].name);
+    struct numbers all = known_numbers();
+    for (size_t i = 0; i < all.count; i++)
+        if (!is_asked(sheet, all.number[i])) {
+            fprintf(stderr, "%s, number %" PRIu64 ", is not asked\n", known_call(all.number[i])->name,
+                    all.number[i]);
             return false;
         }
     return true;
@@ -104,7 +105,7 @@ int main(int count, char **words)
     }
     for (size_t i = 0; i < sizeof sections / sizeof *sections; i++)
         sections[i](&sheet);
-    if (!every_call_is_asked(&sheet))
+    if (!every_number_is_asked(&sheet))
         return EXIT_FAILURE;
     return write_file(words[2], writer, &sheet);
 }

@@ -2,10 +2,11 @@
  * Writes a file of records to standard output.
  *
  *     file random SEED COUNT ONE_SEARCH_IN      random records, valid and damaged, 18 bytes each
- *     file states SEED COUNT                    temperatures and densities in range
+ *     file states SEED COUNT                    temperatures and densities in a fluid's range
  *     file marks                                a record under each of the 65,536 pairs of bytes
  */
 #include "../generator/draw.h"
+#include "../independent/bits.h"
 #include "../independent/fluid.h"
 #include "../records/drawn.h"
 #include "../records/record.h"
@@ -37,20 +38,23 @@ static void write_states(uint64_t seed, uint64_t count)
 {
     struct generator g = { .state = seed };
     for (uint64_t k = 0; k < count; k++) {
-        uint8_t bytes[RECORD_BYTES] = "TD";
-        put_number(bytes + 2, uniform(&g, r245ca.T.least, r245ca.T.greatest));
-        put_number(bytes + 10, uniform(&g, r245ca.rho.least, r245ca.rho.greatest));
+        const struct fluid *fluid = any_fluid(&g);
+        uint8_t bytes[RECORD_BYTES] = { fluid == &r245fa ? 'F' : 'T', 'D' };
+        put_number(bytes + 2, uniform(&g, fluid->T.least, fluid->T.greatest));
+        put_number(bytes + 10, uniform(&g, fluid->rho.least, fluid->rho.greatest));
         write_record(bytes);
     }
 }
 
+/* Both numbers are in every fluid's range, the second as a density and as a pressure, so that known marks are answered. */
 static void write_marks(void)
 {
-    uint8_t bytes[RECORD_BYTES] = { 0 };
+    uint8_t bytes[RECORD_BYTES];
     for (unsigned mark = 0; mark < 65536; mark++) {
         bytes[0] = (uint8_t)(mark >> 8);
         bytes[1] = (uint8_t)mark;
-        bytes[17] = (uint8_t)(mark % 251);
+        put_number(bytes + 2, bits_of(300));
+        put_number(bytes + 10, bits_of(10) + mark);
         write_record(bytes);
     }
 }

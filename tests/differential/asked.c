@@ -60,3 +60,12 @@ void show_tally(const struct tally *tally)
     }
     printf(questions_in(tally) > 0 ? ")" : "");
 }
+
+void name_number(char name[NAME_ROOM], uint64_t number)
+{
+    const struct call *call = known_call(number);
+    if (asks_a_fluid(call))
+        snprintf(name, NAME_ROOM, "%s, %s", fluid_asked(number)->name, call->name);
+    else
+        snprintf(name, NAME_ROOM, "%s", call->name);
+}

@@ -11,8 +11,8 @@ enum { DIFFERENCES_SHOWN = 5 };
 
 struct stream {
     uint64_t seed, count;
-    const uint64_t *calls;
-    size_t calls_count;
+    const uint64_t *numbers;
+    size_t numbers_count;
 };
 
 static void show_difference(struct question question, struct answer got, struct answer wanted)
@@ -27,7 +27,7 @@ static void show_difference(struct question question, struct answer got, struct 
 
 static struct generator beginning(const struct stream *stream)
 {
-    return generator_of(stream->seed, stream->calls, stream->calls_count);
+    return generator_of(stream->seed, stream->numbers, stream->numbers_count);
 }
 
 static void write_stream(FILE *input, const void *what)
@@ -81,15 +81,15 @@ static void show_result(const char *name, const struct stream *stream, uint64_t 
                stream->count);
 }
 
-void compare_stream(struct asked *asked, const char *name, const uint64_t *calls,
-                    size_t calls_count)
+void compare_stream(struct asked *asked, const char *name, const uint64_t *numbers,
+                    size_t numbers_count)
 {
-    uint64_t state = asked->seed ^ calls[0];
+    uint64_t state = asked->seed ^ numbers[0];
     struct stream stream = {
         .seed = splitmix(&state),
         .count = asked->count,
-        .calls = calls,
-        .calls_count = calls_count,
+        .numbers = numbers,
+        .numbers_count = numbers_count,
     };
     static struct probe_run run;
     struct tally tally = { 0 };

@@ -1,4 +1,4 @@
-/* Bit patterns at random. */
+/* Bit patterns and fluids at random. */
 #include "draw.h"
 
 #include "../independent/bits.h"
@@ -51,4 +51,9 @@ static uint64_t any_nan(struct generator *g)
 uint64_t special(struct generator *g)
 {
     return below(g, 4) == 0 ? any_nan(g) : special_patterns[below(g, SPECIAL_PATTERNS)];
+}
+
+const struct fluid *any_fluid(struct generator *g)
+{
+    return fluid_numbered(below(g, FLUIDS));
 }

@@ -1,4 +1,4 @@
-/* Bit patterns at random. */
+/* Bit patterns and fluids at random. */
 #ifndef DRAW_H
 #define DRAW_H
 
@@ -17,5 +17,7 @@ uint64_t nearby(struct generator *g, double number);
 uint64_t closing_in(struct generator *g, double number, double distance);
 
 uint64_t special(struct generator *g);
+
+const struct fluid *any_fluid(struct generator *g);
 
 #endif

@@ -6,45 +6,60 @@
 #include "families.h"
 
 /* A pressure that the equation itself gives, where "≤ P" and "> P" meet. */
-static uint64_t met_pressure(struct generator *g, double T)
+static uint64_t met_pressure(struct generator *g, const struct fluid *fluid, double T)
 {
-    if (!in_range(r245ca.T, T))
+    if (!in_range(fluid->T, T))
         return any_bits(g);
     bool at_coarse_end = below(g, 2) == 0;
-    uint64_t step = at_coarse_end ? STEPS_IN_CELL * below(g, r245ca.top + 1)
-                                  : below(g, STEPS_IN_CELL * r245ca.top + 1);
-    return nearby(g, property_at(&r245ca, PRESSURE, T, density_of_step(step)).value);
+    uint64_t step = at_coarse_end ? STEPS_IN_CELL * below(g, fluid->top + 1)
+                                  : below(g, STEPS_IN_CELL * fluid->top + 1);
+    return nearby(g, property_at(fluid, PRESSURE, T, density_of_step(step)).value);
 }
 
-static uint64_t asked_pressure(struct generator *g, double T)
+static uint64_t range_end(struct generator *g, struct range range)
 {
-    switch (below(g, 12)) {
-    case 0:
-        return nearby(g, below(g, 2) ? r245ca.P.least : r245ca.P.greatest);
-    case 1:
-        return below(g, 2) ? special(g) : any_bits(g);
-    case 2:
-        return bits_of(0.5);
-    case 3:
-    case 4:
-        return met_pressure(g, T);
-    case 5:
-        return uniform(g, -r245ca.P.greatest, 2 * r245ca.P.greatest);
-    case 6:
-    case 7:
-        return uniform(g, r245ca.P.least, r245ca.P.greatest);
-    default:
-        return log_uniform(g, r245ca.P.least, r245ca.P.greatest);
-    }
+    return nearby(g, below(g, 2) ? range.least : range.greatest);
 }
 
-/* The temperature changes rarely, as it does where a preparation is worth its while. */
-struct question search(struct generator *g)
+static uint64_t asked_pressure(struct generator *g, const struct fluid *fluid, double T)
+{
+    uint64_t percent = below(g, 100);
+    if (percent < 8)
+        return range_end(g, any_fluid(g)->P);
+    if (percent < 15)
+        return below(g, 2) ? special(g) : any_bits(g);
+    if (percent < 18)
+        return bits_of(0.5);
+    if (percent < 33)
+        return met_pressure(g, fluid, T);
+    if (percent < 40)
+        return uniform(g, -fluid->P.greatest, 2 * fluid->P.greatest);
+    if (percent < 50)
+        return between_fluids(g, greatest_pressure);
+    if (percent < 60)
+        return uniform(g, fluid->P.least, fluid->P.greatest);
+    if (percent < 68)
+        return uniform(g, fluid->P.greatest / 2, fluid->P.greatest);
+    return log_uniform(g, fluid->P.least, fluid->P.greatest);
+}
+
+/* The densest states are found at the greatest pressures of the lowest temperatures. */
+static uint64_t search_temperature(struct generator *g, const struct fluid *fluid)
+{
+    double tenth = (fluid->T.greatest - fluid->T.least) / 10;
+    return below(g, 8) ? temperature(g, fluid) : uniform(g, fluid->T.least, fluid->T.least + tenth);
+}
+
+/*
+ * The temperature changes rarely, as it does where a preparation is worth its while, and all fluids are asked for it: what
+ * is kept for one must not serve another.
+ */
+struct question search(struct generator *g, const struct fluid *fluid)
 {
     if (below(g, 32) == 0)
-        g->T_bits = temperature(g);
+        g->T_bits = search_temperature(g, fluid);
     return (struct question){
         .first = g->T_bits,
-        .second = asked_pressure(g, number_of(g->T_bits)),
+        .second = asked_pressure(g, fluid, number_of(g->T_bits)),
     };
 }

@@ -37,6 +37,7 @@ struct series {
 
 /* Units: K, mol/dm³, Pa, J/(mol K), kg/mol. */
 struct fluid {
+    const char *name;
     double Tc, rhoc, pc, R, M;
     struct range T, rho, P;
     uint64_t top;
@@ -46,6 +47,15 @@ struct fluid {
     struct series saturation_pressure, liquid_density, vapour_density;
 };
 
-extern const struct fluid r245ca;
+extern const struct fluid r245ca, r245fa;
+
+/* M-100 numbers the fluids: 0 for R-245ca, 1 for R-245fa. */
+enum { FLUIDS = 2 };
+
+/* Room for the list of any fluid's top, and more. */
+enum { LIST_ROOM = 4096 };
+
+/* NULL where no fluid has the number. */
+const struct fluid *fluid_numbered(uint64_t number);
 
 #endif

@@ -6,8 +6,6 @@
 #include "density.h"
 #include "equation.h"
 
-enum { LIST_PLACES = 2049 };
-
 enum elementary { EXP, LN, ROOT };
 
 const struct call known_calls[] = {
@@ -34,17 +32,46 @@ const struct call known_calls[] = {
 
 const size_t known_calls_count = sizeof known_calls / sizeof *known_calls;
 
-const struct call *known_call(uint64_t number)
+_Static_assert(sizeof known_calls / sizeof *known_calls * FLUIDS <= NUMBERS_ROOM, "too many numbers");
+
+bool asks_a_fluid(const struct call *call)
 {
-    for (size_t i = 0; i < known_calls_count; i++)
-        if (known_calls[i].number == number)
-            return &known_calls[i];
-    return NULL;
+    return call->family != ELEMENTARY;
 }
 
 bool takes_one_number(const struct call *call)
 {
     return call->family == ELEMENTARY || call->family == ESTIMATE;
+}
+
+const struct call *known_call(uint64_t number)
+{
+    for (size_t i = 0; i < known_calls_count; i++) {
+        const struct call *call = &known_calls[i];
+        uint64_t asked = asks_a_fluid(call) ? number % FLUID_STRIDE : number;
+        if (asked == call->number)
+            return call;
+    }
+    return NULL;
+}
+
+const struct fluid *fluid_asked(uint64_t number)
+{
+    return fluid_numbered(number / FLUID_STRIDE);
+}
+
+bool is_known_number(uint64_t number)
+{
+    return known_call(number) != NULL && fluid_asked(number) != NULL;
+}
+
+struct numbers known_numbers(void)
+{
+    struct numbers all = { 0 };
+    for (uint64_t number = 0; number < FLUIDS * FLUID_STRIDE; number++)
+        if (is_known_number(number))
+            all.number[all.count++] = number;
+    return all;
 }
 
 static struct outcome elementary(enum elementary which, double x)
@@ -64,38 +91,34 @@ static struct outcome density_outcome(struct found found)
     return (struct outcome){ .code = found.code, .value = found.rho };
 }
 
-/* Lists prepared at T, and kept while the bits of T stay the same. */
-static struct lists prepared_at(double T)
+/* Lists prepared for the fluid at T, and kept while the fluid and the bits of T stay the same. */
+static struct lists prepared_at(const struct fluid *fluid, double T)
 {
-    static double G[LIST_PLACES], L[LIST_PLACES];
+    static double G[LIST_ROOM], L[LIST_ROOM];
+    static const struct fluid *kept_fluid;
     static uint64_t kept_bits;
-    static bool kept;
-    struct lists lists = { .G = { G, LIST_PLACES }, .L = { L, LIST_PLACES } };
-    if (!kept || kept_bits != bits_of(T))
-        prepare(&r245ca, T, r245ca.top, lists);
-    kept = true;
+    struct lists lists = { .G = { G, LIST_ROOM }, .L = { L, LIST_ROOM } };
+    if (kept_fluid != fluid || kept_bits != bits_of(T))
+        prepare(fluid, T, fluid->top, lists);
+    kept_fluid = fluid;
     kept_bits = bits_of(T);
     return lists;
 }
 
-static struct outcome quick_after_preparing(double T, double P, enum side side)
-{
-    return density_outcome(quick_density(&r245ca, T, P, r245ca.top, side, prepared_at(T)));
-}
-
-static struct outcome outcome_of(const struct call *call, double a, double b)
+static struct outcome outcome_of(const struct call *call, const struct fluid *fluid, double a, double b)
 {
     switch (call->family) {
     case ELEMENTARY:
         return elementary(call->which, a);
     case PROPERTY:
-        return property_at(&r245ca, call->which, a, b);
+        return property_at(fluid, call->which, a, b);
     case ESTIMATE:
-        return estimate_at(&r245ca, call->which, a);
+        return estimate_at(fluid, call->which, a);
     case PLAIN_SEARCH:
-        return density_outcome(plain_density(&r245ca, a, b, r245ca.top, call->which));
+        return density_outcome(plain_density(fluid, a, b, fluid->top, call->which));
     default:
-        return quick_after_preparing(a, b, call->which);
+        return density_outcome(
+            quick_density(fluid, a, b, fluid->top, call->which, prepared_at(fluid, a)));
     }
 }
 
@@ -107,9 +130,12 @@ static struct answer refusal(uint64_t code)
 struct answer answer_question(uint64_t number, uint64_t a, uint64_t b)
 {
     const struct call *call = known_call(number);
+    const struct fluid *fluid = fluid_asked(number);
     if (call == NULL)
         return refusal(REFUSED_UNKNOWN);
-    struct outcome outcome = outcome_of(call, number_of(a), number_of(b));
+    if (fluid == NULL)
+        return refusal(REFUSED_UNKNOWN_FLUID);
+    struct outcome outcome = outcome_of(call, fluid, number_of(a), number_of(b));
     if (outcome.code != ANSWERED)
         return refusal(outcome.code);
     return (struct answer){ .code = ANSWERED, .bits = bits_of(outcome.value) };

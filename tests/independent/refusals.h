@@ -5,7 +5,7 @@
 #include <math.h>
 #include <stdint.h>
 
-/* 01, "Numbered refusals". */
+/* 01, "Numbered refusals", and M-100's 17. */
 enum refusal {
     ANSWERED = 0,
     REFUSED_NOT_A_NUMBER = 2,
@@ -23,7 +23,11 @@ enum refusal {
     REFUSED_UNKNOWN = 14,
     REFUSED_CUT_SHORT = 15,
     REFUSED_NOT_ENCLOSED = 16,
+    REFUSED_UNKNOWN_FLUID = 17,
 };
+
+/* As many codes as there are, 0 among them. */
+enum { CODES = 18 };
 
 struct outcome {
     uint64_t code;

@@ -3,24 +3,24 @@
 
 #include "../independent/bits.h"
 
-struct numbers {
+struct held_numbers {
     double G[PLACES], L[PLACES];
 };
 
 /* Copied as bytes, so that a NaN keeps its payload. */
-static void take_held(struct numbers *numbers, const struct held *held)
+static void take_held(struct held_numbers *numbers, const struct held *held)
 {
     memcpy(numbers->G, held->G, sizeof numbers->G);
     memcpy(numbers->L, held->L, sizeof numbers->L);
 }
 
-static void give_held(struct held *held, const struct numbers *numbers)
+static void give_held(struct held *held, const struct held_numbers *numbers)
 {
     memcpy(held->G, numbers->G, sizeof held->G);
     memcpy(held->L, numbers->L, sizeof held->L);
 }
 
-static struct lists lend(struct numbers *numbers, uint64_t lent_G, uint64_t lent_L)
+static struct lists lend(struct held_numbers *numbers, uint64_t lent_G, uint64_t lent_L)
 {
     return (struct lists){
         .G = { numbers->G, lent_places(lent_G) },
@@ -28,31 +28,37 @@ static struct lists lend(struct numbers *numbers, uint64_t lent_G, uint64_t lent
     };
 }
 
-void hold_prepared(struct held *held, double T, uint64_t c)
+void hold_prepared(struct held *held, const struct fluid *fluid, double T, uint64_t c)
 {
-    static struct numbers numbers;
+    static struct held_numbers numbers;
     take_held(&numbers, held);
-    prepare(&r245ca, T, c, lend(&numbers, PLACES, PLACES));
+    prepare(fluid, T, c, lend(&numbers, PLACES, PLACES));
     give_held(held, &numbers);
+}
+
+static struct found no_density(uint64_t code)
+{
+    return (struct found){ .code = code, .word = NO_WORD };
 }
 
 static struct found outcome(const struct list_question *question, struct lists lists)
 {
+    const struct fluid *fluid = fluid_numbered(question->fluid);
     double T = number_of(question->T), P = number_of(question->P);
     uint64_t c = question->c;
+    if (fluid == NULL)
+        return no_density(REFUSED_UNKNOWN_FLUID);
     switch (question->call) {
     case PLAIN_BELOW:
-        return plain_density(&r245ca, T, P, c, BELOW);
+        return plain_density(fluid, T, P, c, BELOW);
     case PLAIN_ABOVE:
-        return plain_density(&r245ca, T, P, c, ABOVE);
+        return plain_density(fluid, T, P, c, ABOVE);
     case PREPARE:
-        return (struct found){ .code = prepare(&r245ca, T, c, lists), .word = NO_WORD };
+        return no_density(prepare(fluid, T, c, lists));
     case QUICK_BELOW:
-        return quick_density(&r245ca, T, P, c, BELOW, lists);
-    case QUICK_ABOVE:
-        return quick_density(&r245ca, T, P, c, ABOVE, lists);
+        return quick_density(fluid, T, P, c, BELOW, lists);
     default:
-        return (struct found){ .code = REFUSED_UNKNOWN, .word = NO_WORD };
+        return quick_density(fluid, T, P, c, ABOVE, lists);
     }
 }
 
@@ -72,7 +78,7 @@ static uint64_t word_number(enum word word)
 
 void answer_list_question(const struct list_question *question, struct list_reply *reply)
 {
-    static struct numbers numbers;
+    static struct held_numbers numbers;
     take_held(&numbers, &question->held);
     struct found found = outcome(question, lend(&numbers, question->lent_G, question->lent_L));
     reply->code = found.code;

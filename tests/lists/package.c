@@ -32,16 +32,17 @@ static void ask_plain(const struct list_question *question, uint32_t side, struc
 {
     double T = number_of(question->T), P = number_of(question->P);
     size_t c = question->c;
-    reply->code = bench_plain_code(T, P, c, side);
-    reply->bits = density_bits(bench_plain(T, P, c, side));
-    reply->word = bench_plain_word(T, P, c, side);
+    reply->code = bench_plain_code(question->fluid, T, P, c, side);
+    reply->bits = density_bits(bench_plain(question->fluid, T, P, c, side));
+    reply->word = bench_plain_word(question->fluid, T, P, c, side);
 }
 
 /* A preparation has no density and no word. */
 static void ask_prepare(const struct list_question *question, struct lent G, struct lent L,
                         struct list_reply *reply)
 {
-    reply->code = bench_prepare(number_of(question->T), question->c, G.list, G.places, L.list, L.places);
+    reply->code = bench_prepare(question->fluid, number_of(question->T), question->c, G.list, G.places, L.list,
+                                L.places);
     reply->bits = NO_BITS;
     reply->word = 0;
 }
@@ -51,9 +52,10 @@ static void ask_quick(const struct list_question *question, uint32_t side, struc
 {
     double T = number_of(question->T), P = number_of(question->P);
     size_t c = question->c;
-    reply->code = bench_quick_code(T, P, c, side, G.list, G.places, L.list, L.places);
-    reply->bits = density_bits(bench_quick(T, P, c, side, G.list, G.places, L.list, L.places));
-    reply->word = bench_quick_word(T, P, c, side, G.list, G.places, L.list, L.places);
+    uint32_t fluid = question->fluid;
+    reply->code = bench_quick_code(fluid, T, P, c, side, G.list, G.places, L.list, L.places);
+    reply->bits = density_bits(bench_quick(fluid, T, P, c, side, G.list, G.places, L.list, L.places));
+    reply->word = bench_quick_word(fluid, T, P, c, side, G.list, G.places, L.list, L.places);
 }
 
 /*

@@ -5,7 +5,8 @@
 #include "../generator.h"
 #include "../independent/density.h"
 
-enum { LIST_CALLS = 5, PLACES = 1700 };
+/* PLACES are more than any fluid's top asks for. */
+enum { LIST_CALLS = 5, PLACES = 2200 };
 
 enum list_call { PLAIN_BELOW, PLAIN_ABOVE, PREPARE, QUICK_BELOW, QUICK_ABOVE };
 
@@ -16,6 +17,7 @@ struct held {
 
 /* lent_G and lent_L places of the lists are lent, or all where there are not as many. */
 struct list_question {
+    uint32_t fluid;
     uint64_t call, T, P, c, lent_G, lent_L;
     struct held held;
 };
@@ -46,7 +48,7 @@ void answer_list_question(const struct list_question *question, struct list_repl
 void ask_package(const struct lent_memory *memory, const struct list_question *question,
                  struct list_reply *reply);
 
-/* The first c + 1 places as a preparation at T leaves them; untouched where it refuses. */
-void hold_prepared(struct held *held, double T, uint64_t c);
+/* The first c + 1 places as a preparation for the fluid at T leaves them; untouched where it refuses. */
+void hold_prepared(struct held *held, const struct fluid *fluid, double T, uint64_t c);
 
 #endif

@@ -18,7 +18,7 @@
 #include <stdlib.h>
 #include <string.h>
 
-enum { LONGEST_OUTPUT = 20, DIFFERENCES_SHOWN = 5, CODES = 17 };
+enum { LONGEST_OUTPUT = 20, DIFFERENCES_SHOWN = 5 };
 
 /* The header's numbers are 01's. */
 _Static_assert((int)VERRIBLOM_ANSWERED == (int)ANSWERED
@@ -32,7 +32,8 @@ _Static_assert((int)VERRIBLOM_ANSWERED == (int)ANSWERED
                    && (int)VERRIBLOM_NOT_NEIGHBOURS == (int)REFUSED_HALVINGS
                    && (int)VERRIBLOM_WORK_NOT_FINITE == (int)REFUSED_NOT_FINITE
                    && (int)VERRIBLOM_UNKNOWN_MARK == (int)REFUSED_UNKNOWN
-                   && (int)VERRIBLOM_RECORD_CUT_SHORT == (int)REFUSED_CUT_SHORT,
+                   && (int)VERRIBLOM_RECORD_CUT_SHORT == (int)REFUSED_CUT_SHORT
+                   && (int)VERRIBLOM_UNKNOWN_FLUID == (int)REFUSED_UNKNOWN_FLUID,
                "a code of the header is another than 01's");
 
 /* Where record and output end. */
@@ -40,13 +41,39 @@ struct memory {
     uint8_t *record_end, *out_end;
 };
 
-/* Of each code that the independent implementation gives: how often it was met, and how often the call differed. */
+/* A record is of a fluid by its mark, or of none where it has no known mark. */
+enum { NO_FLUID = FLUIDS };
+
+static int fluid_of(const struct drawn *drawn)
+{
+    switch (record_mark(drawn->bytes, drawn->length)[0]) {
+    case 'T':
+        return 0;
+    case 'F':
+        return 1;
+    default:
+        return NO_FLUID;
+    }
+}
+
+static const char *fluid_name(int fluid)
+{
+    return fluid == NO_FLUID ? "no known mark" : fluid_numbered((uint64_t)fluid)->name;
+}
+
+/* Of each fluid and each code that is expected: how often it was met, and how often the call differed. */
 struct counts {
-    uint64_t met[CODES], differed[CODES], shown;
+    uint64_t met[FLUIDS + 1][CODES], differed[FLUIDS + 1][CODES], shown;
 };
 
 /* A record's codes, every one of which a run has to meet. */
-static const int record_codes[] = { 0, 1, 2, 3, 4, 5, 7, 14, 15 };
+static const uint64_t fluid_codes = 1 << 0 | 1 << 1 | 1 << 2 | 1 << 3 | 1 << 4 | 1 << 5 | 1 << 7;
+static const uint64_t other_codes = 1 << 14 | 1 << 15;
+
+static bool is_owed(int fluid, int code)
+{
+    return (fluid == NO_FLUID ? other_codes : fluid_codes) >> code & 1;
+}
 
 static void show(const struct drawn *drawn, size_t room, uint32_t got, uint64_t wanted)
 {
@@ -80,10 +107,10 @@ static void compare_one(struct generator *g, struct memory *memory, uint64_t one
 
     uint64_t code = expect(&drawn, wanted, room);
     uint32_t got = verriblom_answer(record, drawn.length, out, room);
-    counts->met[code]++;
+    counts->met[fluid_of(&drawn)][code]++;
     if (got == code && memcmp(out, wanted, room) == 0 && memcmp(record, drawn.bytes, drawn.length) == 0)
         return;
-    counts->differed[code]++;
+    counts->differed[fluid_of(&drawn)][code]++;
     if (counts->shown++ < DIFFERENCES_SHOWN)
         show(&drawn, room, got, code);
 }
@@ -91,24 +118,33 @@ static void compare_one(struct generator *g, struct memory *memory, uint64_t one
 static void show_codes(const struct counts *counts)
 {
     printf("codes met:");
-    for (int code = 0; code < CODES; code++)
-        if (counts->met[code] != 0)
-            printf(" %d (%" PRIu64 ")", code, counts->met[code]);
+    for (int fluid = 0; fluid <= NO_FLUID; fluid++) {
+        printf("%s %s:", fluid == 0 ? "" : ";", fluid_name(fluid));
+        for (int code = 0; code < CODES; code++)
+            if (counts->met[fluid][code] != 0)
+                printf(" %d (%" PRIu64 ")", code, counts->met[fluid][code]);
+    }
     printf("\n");
 }
 
-/* A code has passed if it was met and no record with it differed. */
+/* A code of a fluid has passed if it was met and no record with it differed. */
 static int count_codes(const struct counts *counts)
 {
-    int passed = 0, codes = sizeof record_codes / sizeof *record_codes;
-    for (int k = 0; k < codes; k++)
-        passed += counts->met[record_codes[k]] != 0 && counts->differed[record_codes[k]] == 0;
-    int failed = codes - passed;
-    for (int code = 0; code < CODES; code++)
-        if (counts->differed[code] != 0)
-            printf("code %d: %" PRIu64 " records differ\n", code, counts->differed[code]);
-    printf("%d passed, %d failed\n", passed, failed + (failed == 0 && counts->shown != 0));
-    return failed != 0 || counts->shown != 0;
+    int passed = 0, failed = 0;
+    for (int fluid = 0; fluid <= NO_FLUID; fluid++)
+        for (int code = 0; code < CODES; code++) {
+            uint64_t met = counts->met[fluid][code], differed = counts->differed[fluid][code];
+            if (differed != 0)
+                printf("%s, code %d: %" PRIu64 " records differ\n", fluid_name(fluid), code, differed);
+            if (!is_owed(fluid, code) && differed == 0)
+                continue;
+            if (met != 0 && differed == 0)
+                passed++;
+            else
+                failed++;
+        }
+    printf("%d passed, %d failed\n", passed, failed);
+    return failed != 0;
 }
 
 int main(int argc, char **argv)

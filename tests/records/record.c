@@ -9,7 +9,9 @@
 #include <stdbool.h>
 #include <string.h>
 
-static const char *const known_marks[] = { "TD", "TB", "TA", "TP", "TN" };
+static const char *const known_marks[] = {
+    "TD", "TB", "TA", "TP", "TN", "FD", "FB", "FA", "FP", "FN",
+};
 
 const char *record_mark(const uint8_t *record, size_t length)
 {
@@ -21,21 +23,27 @@ const char *record_mark(const uint8_t *record, size_t length)
     return "??";
 }
 
+/* M-100: "Old records mean R-245ca; a record for the other fluid has F in place of T in its mark." */
+static const struct fluid *marked_fluid(const char *mark)
+{
+    return mark[0] == 'F' ? &r245fa : &r245ca;
+}
+
 /* 2, 3, and 4 or 5, before the work. */
-static uint64_t input_refusal(bool density_given, double T, double x)
+static uint64_t input_refusal(const struct fluid *fluid, bool density_given, double T, double x)
 {
     if (!isfinite(T) || !isfinite(x))
         return REFUSED_NOT_A_NUMBER;
-    if (!in_range(r245ca.T, T))
+    if (!in_range(fluid->T, T))
         return REFUSED_TEMPERATURE;
     if (density_given)
-        return in_range(r245ca.rho, x) ? ANSWERED : REFUSED_DENSITY;
-    return in_range(r245ca.P, x) ? ANSWERED : REFUSED_PRESSURE;
+        return in_range(fluid->rho, x) ? ANSWERED : REFUSED_DENSITY;
+    return in_range(fluid->P, x) ? ANSWERED : REFUSED_PRESSURE;
 }
 
-static struct outcome searched(double T, double P, enum side side)
+static struct outcome searched(const struct fluid *fluid, double T, double P, enum side side)
 {
-    struct found found = plain_density(&r245ca, T, P, r245ca.top, side);
+    struct found found = plain_density(fluid, T, P, fluid->top, side);
     return found.code == ANSWERED ? answered(found.rho) : refused(found.code);
 }
 
@@ -48,14 +56,15 @@ struct outcome record_outcome(const uint8_t *record, size_t length, size_t room)
         return refused(REFUSED_UNKNOWN);
     if (mark[1] == 'N')
         return refused(REFUSED_NO_READING);
+    const struct fluid *fluid = marked_fluid(mark);
     double T = number_of(get_number(record + 2));
     double x = number_of(get_number(record + 10));
-    uint64_t refusal = input_refusal(mark[1] == 'D', T, x);
+    uint64_t refusal = input_refusal(fluid, mark[1] == 'D', T, x);
     if (refusal != ANSWERED)
         return refused(refusal);
     if (room < NUMBER_BYTES)
         return refused(REFUSED_SHORT_LIST);
     if (mark[1] == 'D')
-        return property_at(&r245ca, PRESSURE, T, x);
-    return searched(T, x, mark[1] == 'A' ? ABOVE : BELOW);
+        return property_at(fluid, PRESSURE, T, x);
+    return searched(fluid, T, x, mark[1] == 'A' ? ABOVE : BELOW);
 }

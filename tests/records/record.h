@@ -1,4 +1,4 @@
-/* 01, "Marked records, the program, the C call": one record's answer, written from 01 alone. */
+/* 01, "Marked records, the program, the C call", with M-100's marks: one record's answer, written from these alone. */
 #ifndef RECORD_H
 #define RECORD_H
 

@@ -5,6 +5,7 @@
 
 #include <stdarg.h>
 #include <stdio.h>
+#include <string.h>
 
 struct count counted;
 
@@ -25,6 +26,20 @@ void check(bool holds, const char *format, ...)
 bool same_bits(double a, double b)
 {
     return bits_of(a) == bits_of(b);
+}
+
+bool close_to(double a, double b, double relative)
+{
+    return fabs(a - b) <= relative * fmax(fabs(a), fabs(b));
+}
+
+bool prints_as(const char *printed, double value)
+{
+    const char *point = strchr(printed, '.');
+    int decimals = point == NULL ? 0 : (int)strlen(point + 1);
+    char written[64];
+    snprintf(written, sizeof written, "%.*f", decimals, value);
+    return strcmp(written, printed) == 0;
 }
 
 bool refused_with(uint64_t code, struct outcome outcome)

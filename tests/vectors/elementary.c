@@ -31,7 +31,7 @@ void exp_questions(struct sheet *sheet)
 
 void ln_questions(struct sheet *sheet)
 {
-    static const double picked[] = { 1, 2, 4, 0.5, 10, 1e-10, 1e10, 447.57, -1, -2, -0x1p60, 1e20 };
+    static const double picked[] = { 1, 2, 4, 0.5, 10, 1e-10, 1e10, 400, -1, -2, -0x1p60, 1e20 };
     ask_each(sheet, 2, picked, sizeof picked / sizeof *picked);
     ask_about(sheet, 2, 0x1p-60);
     ask_about(sheet, 2, 0x1p60);

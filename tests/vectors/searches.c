@@ -1,42 +1,67 @@
-/* Questions of a temperature and a pressure to the searches, plain and quick. */
+/* Questions of a temperature and a pressure to the searches of each fluid, plain and quick. */
 #include "../independent/bits.h"
-#include "../independent/fluid.h"
 #include "sheet.h"
 
 #include <math.h>
 
 #define COUNT(list) (sizeof(list) / sizeof *(list))
 
-static void ask_both(struct sheet *sheet, uint64_t call, double T, double P)
+static void ask_both(struct sheet *sheet, uint64_t number, double T, double P)
 {
-    ask(sheet, call, bits_of(T), bits_of(P));
+    ask(sheet, number, bits_of(T), bits_of(P));
 }
 
 /* Vapour, liquid, the loop between them, and states above the critical point. */
-static void ask_states(struct sheet *sheet, uint64_t call)
+static void ask_states(struct sheet *sheet, uint64_t number, const struct fluid *f)
 {
-    static const double temperatures[] = { 196, 225, 250, 300, 350, 400, 440, 447, 447.57, 448, 450 };
-    static const double pressures[] = { 1, 1000, 1e5, 5e5, 1e6, 2e6, 3e6, 3.9407e6, 5e6, 1e7 };
+    const double temperatures[] = {
+        f->T.least, 225, 250, 300, 350, 400, f->Tc - 7.57, f->Tc - 0.57, f->Tc, f->Tc + 0.43, f->T.greatest,
+    };
+    const double pressures[] = { f->P.least, 1000, 1e5, 5e5, 1e6, 2e6, 3e6, f->pc, 5e6, f->P.greatest };
     for (size_t i = 0; i < COUNT(temperatures); i++)
         for (size_t j = 0; j < COUNT(pressures); j++)
-            ask_both(sheet, call, temperatures[i], pressures[j]);
+            ask_both(sheet, number, temperatures[i], pressures[j]);
 }
 
 /* The ends of the ranges, and which refusal comes first. */
-static void ask_refusals(struct sheet *sheet, uint64_t call)
+static void ask_refusals(struct sheet *sheet, uint64_t number, const struct fluid *f)
 {
-    static const double temperatures[] = { 195.9, 196, 450, 450.1, NAN, INFINITY };
-    static const double pressures[] = { 0, 0.5, 1, 1e7, 1e7 + 1, -1, NAN, -INFINITY };
+    const double temperatures[] = {
+        f->T.least - 0.1, f->T.least, f->T.greatest, f->T.greatest + 0.1, NAN, INFINITY,
+    };
+    const double pressures[] = {
+        0, 0.5, f->P.least, f->P.greatest, f->P.greatest + 1, -1, NAN, -INFINITY,
+    };
     for (size_t i = 0; i < COUNT(temperatures); i++)
         for (size_t j = 0; j < COUNT(pressures); j++)
-            ask_both(sheet, call, temperatures[i], pressures[j]);
+            ask_both(sheet, number, temperatures[i], pressures[j]);
+}
+
+/* The limits of every fluid: what one permits another may not. */
+static void ask_limits(struct sheet *sheet, uint64_t number)
+{
+    for (uint64_t i = 0; i < FLUIDS; i++) {
+        const struct fluid *fluid = fluid_numbered(i);
+        ask_both(sheet, number, fluid->T.least, 1e5);
+        ask_both(sheet, number, fluid->T.greatest, 1e5);
+        ask_both(sheet, number, 300, fluid->P.greatest);
+        ask_both(sheet, number, 300, nextafter(fluid->P.greatest, INFINITY));
+    }
+}
+
+static void ask_search(struct sheet *sheet, uint64_t number)
+{
+    ask_states(sheet, number, fluid_asked(number));
+    ask_refusals(sheet, number, fluid_asked(number));
+    ask_limits(sheet, number);
 }
 
 void search_questions(struct sheet *sheet)
 {
-    for (size_t i = 0; i < known_calls_count; i++)
-        if (known_calls[i].family == PLAIN_SEARCH || known_calls[i].family == QUICK_SEARCH) {
-            ask_states(sheet, known_calls[i].number);
-            ask_refusals(sheet, known_calls[i].number);
-        }
+    struct numbers all = known_numbers();
+    for (size_t i = 0; i < all.count; i++) {
+        enum family family = known_call(all.number[i])->family;
+        if (family == PLAIN_SEARCH || family == QUICK_SEARCH)
+            ask_search(sheet, all.number[i]);
+    }
 }

@@ -1,5 +1,5 @@
--- What the doors take for a side, and what they hand to C: a number for an answer or a search, and a total over a list of
--- densities.
+-- What the doors take for a fluid and a side, and what they hand to C: a number for an answer or a search, and a total over a
+-- list of densities.
 use mathlib.Core.Bool.{cond}
 use mathlib.Core.List.{List}
 use Prim.Native.Nat.{ℕ, zero, suc}
@@ -9,10 +9,12 @@ use lib.ListN.{length, getD}
 use Rattle.refusals.specs.declared.Answer.{Answer}
 use Rattle.refusals.specs.declared.Answer.the-variants.{Number, Refused}
 use Rattle.arithmetic.specs.Checked.{real}
-use Rattle.fluids.specs.declared.Fluid.the-variants.{R245ca}
+use Rattle.refusals.specs.declared.Refusal.{Refusal}
+use Rattle.fluids.specs.declared.Fluid.{Fluid}
+use Rattle.inputs.specs.Numbered.{byNumber}
 use Rattle.kept.specs.Kept.{keptOf}
 use Rattle.equation.specs.State.{pressureAt}
-use Rattle.density.specs.Calls.{plainOf, quickOf}
+use Rattle.density.specs.Calls.{plainBy, quickBy}
 use Rattle.search.specs.declared.Side.{Side}
 use Rattle.search.specs.declared.Side.the-variants.{FromBelow, FromAbove}
 use Rattle.search.specs.declared.Found.{Found}
@@ -32,18 +34,22 @@ foundDensity (Found.Refused r) = nan
 abbrev pub sideOf : ℕ → Side
 sideOf n = cond (eqb n 0) FromBelow FromAbove
 
--- the searches as the doors ask them: R-245ca, the side by its number
-abbrev pub plainFrom : Float → Float → ℕ → ℕ → Found
-plainFrom t P c side = plainOf R245ca t P c (sideOf side)
+-- the searches as the doors ask them: the fluid and the side each by its number
+abbrev pub plainFrom : ℕ → Float → Float → ℕ → ℕ → Found
+plainFrom number t P c side = plainBy number t P c (sideOf side)
 
-abbrev pub quickFrom : Float → Float → ℕ → ℕ → List Float → List Float → Found
-quickFrom t P c side greatest least = quickOf R245ca t P c (sideOf side) greatest least
+abbrev pub quickFrom : ℕ → Float → Float → ℕ → ℕ → List Float → List Float → Found
+quickFrom number t P c side greatest least = quickBy number t P c (sideOf side) greatest least
 
 -- the sum of f over the first i entries, from 0 and in their order
 unfoldable pub totalTo : (Float → Float) → List Float → ℕ → Float
 totalTo f xs zero = real 0
 totalTo f xs (suc i) = add binary64 (totalTo f xs i) (f (getD xs i nan))
 
--- the sum of the pressures at the temperature t and each of the densities
-abbrev pub isothermOf : Float → List Float → Float
-isothermOf t densities = totalTo (pressureAt (keptOf R245ca t)) densities (length densities)
+-- the sum of the pressures of a fluid at the temperature t and each of the densities
+abbrev pub totalOf : Fluid → Float → List Float → Float
+totalOf F t densities = totalTo (pressureAt (keptOf F t)) densities (length densities)
+
+-- the same for the fluid of a number, and `nan` where no fluid has it
+abbrev pub isothermOf : ℕ → Float → List Float → Float
+isothermOf number t densities = byNumber (λ (r : Refusal). nan) number (λ F. totalOf F t densities)

@@ -20,7 +20,6 @@ use Rattle.refusals.specs.declared.Answer.the-variants.{Number}
 use Rattle.refusals.specs.Code.{codeOf, answerCodeOf}
 use Rattle.refusals.specs.Order.{testedOf, permitted}
 use Rattle.fluids.specs.declared.Fluid.{Fluid}
-use Rattle.fluids.specs.declared.Fluid.the-variants.{R245ca}
 use Rattle.fluids.specs.Entries.{entryOf}
 use Rattle.fluids.proofs.Sound.{every}
 use Rattle.records.specs.declared.Kind.{Kind}
@@ -52,13 +51,13 @@ search-permitted F t P ok = simp (top-permitted F) ok
 Answered : Answer → Type 0
 Answered a = (x : Float) × (a ≡ Number x)
 
-work-answered : (F : Fluid) (asked : Question) → inputsOf F asked ≡ Granted → Answered (workOf F asked)
+work-answered : (asked : Question) → inputsOf asked ≡ Granted → Answered (workOf asked)
 unfolding Answered
-work-answered F (State t ρ) ok = (_, pressure-answered F t ρ ok)
-work-answered F (Search t P side) ok =
+work-answered (State F t ρ) ok = (_, pressure-answered F t ρ ok)
+work-answered (Search F t P side) ok =
     let (density, word, e) = every-question-answered F t P side (search-permitted F t P ok) in
     (density, unfold densityAt in ap foundAnswerOf e)
-work-answered F (Question.Refused r) ok = absurd (granted≢denied (sym ok))
+work-answered (Question.Refused r) ok = absurd (granted≢denied (sym ok))
 
 -- ---- the refusals that a record's permit can deny with
 abbrev refusalCodes : List ℕ
@@ -78,21 +77,21 @@ asked-listed : (F : Fluid) (t P : Float) → Listed (askedPermit F t P)
 unfolding askedPermit
 asked-listed F t P = denied-code refusalCodes (askedTests F t P) tt
 
-kind-listed : (F : Fluid) (kind : Kind) (t x : Float) → Listed (inputsOf F (askedBy kind t x))
+kind-listed : (F : Fluid) (kind : Kind) (t x : Float) → Listed (inputsOf (askedBy F kind t x))
 kind-listed F Density t x = state-listed F t x
 kind-listed F FromBelow t x = asked-listed F t x
 kind-listed F FromAbove t x = asked-listed F t x
 kind-listed F NoSide t x = asked-listed F t x
 
-record-listed : (F : Fluid) (r : Record) → Listed (inputsOf F (askedOf r))
-record-listed F (Numbers kind x y) = kind-listed F kind _ _
-record-listed F NoReading = one-listed Refusal.NoReading (inl refl)
-record-listed F Unknown = one-listed UnknownMark (inr (inr (inr (inr (inr (inr (inl refl)))))))
-record-listed F Cut = one-listed CutShort (inr (inr (inr (inr (inr (inr (inr (inl refl))))))))
+record-listed : (r : Record) → Listed (inputsOf (askedOf r))
+record-listed (Numbers F kind x y) = kind-listed F kind _ _
+record-listed NoReading = one-listed Refusal.NoReading (inl refl)
+record-listed Unknown = one-listed UnknownMark (inr (inr (inr (inr (inr (inr (inl refl)))))))
+record-listed Cut = one-listed CutShort (inr (inr (inr (inr (inr (inr (inr (inl refl))))))))
 
-question-listed : (F : Fluid) (s : List ℕ) → Listed (inputsOf F (questionOf s))
+question-listed : (s : List ℕ) → Listed (inputsOf (questionOf s))
 unfolding questionOf
-question-listed F s = record-listed F (recordOf s)
+question-listed s = record-listed (recordOf s)
 
 room-listed : (p : Permit) (room : ℕ) → Listed p → Listed (testedOf p (leb 8 room) TooShort)
 room-listed Granted room ok = denied-code refusalCodes ((leb 8 room, TooShort) ∷ []) tt
@@ -115,21 +114,21 @@ above-0 (x ∷ xs) ok n (inr h) = above-0 xs (and-r (ltb 0 x) (every (ltb 0) xs)
 
 module _ (s out : List ℕ) where
   permit : Permit
-  permit = permitOf R245ca (questionOf s) (length out)
+  permit = permitOf (questionOf s) (length out)
 
-  answered-there : permit ≡ Granted → Answered (workOf R245ca (questionOf s))
+  answered-there : permit ≡ Granted → Answered (workOf (questionOf s))
   unfolding permit permitOf
-  answered-there g = work-answered R245ca (questionOf s) (inputs-granted (inputsOf R245ca (questionOf s)) (length out) g)
+  answered-there g = work-answered (questionOf s) (inputs-granted (inputsOf (questionOf s)) (length out) g)
 
   permit-listed : Listed permit
   unfolding permit permitOf
-  permit-listed = room-listed (inputsOf R245ca (questionOf s)) (length out) (question-listed R245ca s)
+  permit-listed = room-listed (inputsOf (questionOf s)) (length out) (question-listed s)
 
   call-code : OneOf (callCode s out) (0 ∷ refusalCodes)
   unfolding permit callCode callOf
   call-code =
       by-permit permit
-      (λ g. inl (code-where-granted permit (workOf R245ca (questionOf s)) answered-there g))
+      (λ g. inl (code-where-granted permit (workOf (questionOf s)) answered-there g))
       (λ r d. rw d (inr (permit-listed r d)))
 
   granted-by-code : callCode s out ≡ 0 → permit ≡ Granted
@@ -139,6 +138,6 @@ module _ (s out : List ℕ) where
 pub record-calls : RecordCalls
 unfolding permit callCode callOf
 record-calls = record {
-  answered = λ s out. (granted-by-code s out, code-where-granted (permit s out) (workOf R245ca (questionOf s)) (answered-there s out));
+  answered = λ s out. (granted-by-code s out, code-where-granted (permit s out) (workOf (questionOf s)) (answered-there s out));
   code = call-code;
 }

@@ -7,3 +7,4 @@ pub mod Stable
 pub mod NoAnswer
 pub mod Codes
 pub mod Estimated
+pub mod Numbered

@@ -9,7 +9,7 @@ use lib.ListN.{length}
 use lib.Ieee.{Float, le, lt, eq}
 use lib.Ieee.Scale.{finite}
 use Rattle.refusals.specs.declared.Refusal.{Refusal}
-use Rattle.refusals.specs.declared.Refusal.the-variants.{NoCell, NotEnclosed, NotNeighbours, WorkNotFinite}
+use Rattle.refusals.specs.declared.Refusal.the-variants.{NoCell, NotEnclosed, NotNeighbours, WorkNotFinite, UnknownFluid}
 use Rattle.refusals.specs.declared.Permit.the-variants.{Granted}
 use Rattle.refusals.specs.declared.Answer.{Answer}
 use Rattle.refusals.specs.declared.Answer.the-variants.{Refused}
@@ -17,7 +17,9 @@ use Rattle.refusals.specs.Code.{answerCodeOf, OneOf}
 use Rattle.arithmetic.specs.Checked.{real, two⁻, minus, between, _⊕_, _⊗_, _⊘_}
 use Rattle.elementary.specs.Calls.{exponentialOf, logarithmOf, squareRootOf}
 use Rattle.fluids.specs.declared.Fluid.{Fluid}
-use Rattle.fluids.specs.Entries.{entryOf}
+use Rattle.fluids.specs.declared.Named.the-variants.{Unknown}
+use Rattle.fluids.specs.Entries.{entryOf, fluidNumbered}
+use Rattle.inputs.specs.Numbered.{byNumber}
 use Rattle.equation.specs.State.{stateAt}
 use Rattle.stability.specs.Stability.{«V», K, Q}
 use Rattle.properties.specs.Calls.{workedDensity, stabilityPermit, pressureOf, energyOf, enthalpyOf, isochoricOf, entropyOf, gibbsOf, helmholtzOf, isobaricOf, soundSpeedOf}
@@ -30,6 +32,7 @@ use Rattle.search.specs.declared.Side.the-variants.{FromBelow, FromAbove}
 use Rattle.search.specs.declared.Word.{Word}
 use Rattle.search.specs.declared.Found.{Found}
 use Rattle.search.specs.declared.Found.the-variants.{State}
+use Rattle.search.specs.declared.Prepared.{Prepared}
 use Rattle.search.specs.declared.Prepared.the-variants.{Ready}
 use Rattle.inputs.specs.Inputs.{roomOf, searchPermit, preparePermit}
 use Rattle.steps.specs.Steps.{pressuresOf}
@@ -121,3 +124,24 @@ pub record Codes (F : Fluid) : Type 0 where
   pub plain : (t P : Float) (c : ℕ) (side : Side) → OneOf (foundCodeOf (plainOf F t P c side)) (0 ∷ 2 ∷ 3 ∷ 5 ∷ 6 ∷ 8 ∷ [])
   -- up to the fluid's own top
   pub plain-to-the-top : (t P : Float) (side : Side) → OneOf (foundCodeOf (plainOf F t P (entryOf F .topCells) side)) (0 ∷ 2 ∷ 3 ∷ 5 ∷ [])
+
+-- 17: a call for the fluid of the number n ends with it exactly if no fluid has that number, whatever the other inputs are
+abbrev pub Exactly17 : {A : Type 0} → (Refusal → A) → (Fluid → A) → Type 0
+Exactly17 refused call = (n : ℕ) → (byNumber refused n call ≡ refused UnknownFluid) ↔ (fluidNumbered n ≡ Unknown)
+
+pub record NumberedCalls : Type 0 where
+  pub pressure : (t ρ : Float) → Exactly17 Refused (λ F. pressureOf F t ρ)
+  pub energy : (t ρ : Float) → Exactly17 Refused (λ F. energyOf F t ρ)
+  pub enthalpy : (t ρ : Float) → Exactly17 Refused (λ F. enthalpyOf F t ρ)
+  pub isochoric : (t ρ : Float) → Exactly17 Refused (λ F. isochoricOf F t ρ)
+  pub entropy : (t ρ : Float) → Exactly17 Refused (λ F. entropyOf F t ρ)
+  pub gibbs : (t ρ : Float) → Exactly17 Refused (λ F. gibbsOf F t ρ)
+  pub helmholtz : (t ρ : Float) → Exactly17 Refused (λ F. helmholtzOf F t ρ)
+  pub isobaric : (t ρ : Float) → Exactly17 Refused (λ F. isobaricOf F t ρ)
+  pub sound-speed : (t ρ : Float) → Exactly17 Refused (λ F. soundSpeedOf F t ρ)
+  pub saturation-pressure : (t : Float) → Exactly17 Refused (λ F. saturationPressureOf F t)
+  pub saturated-liquid : (t : Float) → Exactly17 Refused (λ F. saturatedLiquidOf F t)
+  pub saturated-vapour : (t : Float) → Exactly17 Refused (λ F. saturatedVapourOf F t)
+  pub prepare : (t : Float) (c : ℕ) (g l : List Float) → Exactly17 Prepared.Refused (λ F. prepareOf F t c g l)
+  pub plain : (t P : Float) (c : ℕ) (side : Side) → Exactly17 Found.Refused (λ F. plainOf F t P c side)
+  pub quick : (t P : Float) (c : ℕ) (side : Side) (g l : List Float) → Exactly17 Found.Refused (λ F. quickOf F t P c side g l)

@@ -7,13 +7,16 @@ use pairs::pairs_that_differ;
 use preparation::prepare;
 use search::Prepared;
 
+// R-245ca.
+const FLUID: u32 = 0;
+
 fn main() {
     let mut greatest = [0.0; 1665];
     let mut least = [0.0; 1665];
-    let prepared = prepare(400.0, 1664, &mut greatest, &mut least);
+    let prepared = prepare(FLUID, 400.0, 1664, &mut greatest, &mut least);
     match prepared {
         Prepared::Ready => {
-            let count = pairs_that_differ(400.0, 1664, &greatest, &least);
+            let count = pairs_that_differ(FLUID, 400.0, 1664, &greatest, &least);
             io::print_decimal(STDOUT_FILENO, count);
         }
         Prepared::Refused(r) => {

@@ -23,17 +23,31 @@ fn same(a: Found, b: Found) -> bool
 }
 
 // 1 where the pair of answers from one side differs.
-fn differs(t: f64, p: f64, c: usize, side: Side, greatest: &[f64], least: &[f64]) -> u64
-    ensures { λ r. ⌜ (r ≡ differsAt t p c side (now (greatest .entry)) (now (least .entry))) × (r ≤ 1) ⌝ }
+fn differs(
+    number: u32,
+    t: f64,
+    p: f64,
+    c: usize,
+    side: Side,
+    greatest: &[f64],
+    least: &[f64],
+) -> u64
+    ensures { λ r. ⌜ (r ≡ differsAt number t p c side (now (greatest .entry)) (now (least .entry))) × (r ≤ 1) ⌝ }
 {
-    let a = plain(t, p, c, side);
-    let b = quick(t, p, c, side, greatest, least);
+    let a = plain(number, t, p, c, side);
+    let b = quick(number, t, p, c, side, greatest, least);
     if same(a, b) { 0 } else { 1 }
 }
 
 // How many of the pairs differ at the first 100 multiples of 100,000 Pa, from both sides.
-pub(crate) fn pairs_that_differ(t: f64, c: usize, greatest: &[f64], least: &[f64]) -> u64
-    ensures { λ r. ⌜ r ≡ differing t c (now (greatest .entry)) (now (least .entry)) 100 ⌝ }
+pub(crate) fn pairs_that_differ(
+    number: u32,
+    t: f64,
+    c: usize,
+    greatest: &[f64],
+    least: &[f64],
+) -> u64
+    ensures { λ r. ⌜ r ≡ differing number t c (now (greatest .entry)) (now (least .entry)) 100 ⌝ }
 {
     let mut count: u64 = 0;
     let mut n: u64 = 0;
@@ -41,8 +55,8 @@ pub(crate) fn pairs_that_differ(t: f64, c: usize, greatest: &[f64], least: &[f64
         let next = n + 1;
         let pascals = 100000 * next;
         let p = pascals as f64;
-        let below = differs(t, p, c, Side::FromBelow, greatest, least);
-        let above = differs(t, p, c, Side::FromAbove, greatest, least);
+        let below = differs(number, t, p, c, Side::FromBelow, greatest, least);
+        let above = differs(number, t, p, c, Side::FromAbove, greatest, least);
         let more = below + above;
         count = count + more;
         n = next;

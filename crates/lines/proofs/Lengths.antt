@@ -17,7 +17,7 @@ use Rattle.lines.specs.Lines.{markOf, markText, dashes, bitsText, spaced
 use Rattle.lines.proofs.Digits.{digits-length, decimal-small}
 
 letters-length : (r : Record) (s : List ℕ) → length (markOf r s) ≡ 2
-letters-length (Numbers kind x y) s = refl
+letters-length (Numbers F kind x y) s = refl
 letters-length NoReading s = refl
 letters-length Unknown s = refl
 letters-length Cut s = refl

@@ -27,7 +27,7 @@ letters s = byteAt s 0 ∷ byteAt s 1 ∷ []
 
 -- its mark; ?? if unknown, -- if cut
 abbrev pub markOf : Record → List ℕ → List ℕ
-markOf (Numbers kind x y) s = letters s
+markOf (Numbers F kind x y) s = letters s
 markOf NoReading s = letters s
 markOf Unknown s = bytes "??"
 markOf Cut s = bytes "--"

@@ -1,5 +1,7 @@
 // 01, "Preparing": the lists G and L of the pressures of an isotherm.
 use fluids::Fluid;
+use fluids::Named;
+use fluids::fluid_numbered;
 use inputs::prepare_inputs;
 use inputs::room;
 use kept::Kept;
@@ -14,14 +16,13 @@ use steps::end_pressure;
 ghost use mathlib.Core.Path.{_≡_};
 ghost use Prim.Native.Nat.{_+_, _<_, _≤_};
 ghost use lib.ListN.{length};
-ghost use Rattle.fluids.specs.declared.Fluid.the-variants.{R245ca};
 ghost use Rattle.fluids.specs.Entry.{mostCells};
 ghost use Rattle.search.specs.Plain.{atEnds};
 ghost use Rattle.search.specs.Lists.{someNotFinite, greatestList, leastList};
 ghost use Rattle.refusals.specs.declared.Permit.the-variants.{Granted};
 ghost use Rattle.steps.specs.Steps.{stepPressureOf};
 ghost use Rattle.preparation.specs.Filled.{Filled};
-ghost use Rattle.preparation.specs.Prepare.{preparedBy, prepareOf, greatestAfter, leastAfter};
+ghost use Rattle.preparation.specs.Prepare.{preparedBy, prepareOf, greatestAfter, leastAfter, prepareBy, greatestBy, leastBy};
 
 // The pressures at the ends 0..c into both lists; false at the first that gives 12.
 fn fill(kept: Kept, c: usize, greatest: &mut [f64], least: &mut [f64]) -> bool
@@ -80,11 +81,15 @@ fn prepare_of(fluid: Fluid, t: f64, c: usize, greatest: &mut [f64], least: &mut 
     }
 }
 
-// The pressures of R-245ca.
-pub fn prepare(t: f64, c: usize, greatest: &mut [f64], least: &mut [f64]) -> Prepared
-    ensures { λ r. ⌜ (r ≡ prepareOf R245ca t c (now (greatest .entry)) (now (least .entry)))
-        × (now (greatest .exit) ≡ greatestAfter R245ca t c (now (greatest .entry)) (now (least .entry)))
-        × (now (least .exit) ≡ leastAfter R245ca t c (now (greatest .entry)) (now (least .entry))) ⌝ }
+// The pressures of the fluid of a number: 17, then as `prepare_of` refuses.
+pub fn prepare(number: u32, t: f64, c: usize, greatest: &mut [f64], least: &mut [f64]) -> Prepared
+    ensures { λ r. ⌜ (r ≡ prepareBy number t c (now (greatest .entry)) (now (least .entry)))
+        × (now (greatest .exit) ≡ greatestBy number t c (now (greatest .entry)) (now (least .entry)))
+        × (now (least .exit) ≡ leastBy number t c (now (greatest .entry)) (now (least .entry))) ⌝ }
 {
-    prepare_of(Fluid::R245ca, t, c, greatest, least)
+    let named = fluid_numbered(number);
+    match named {
+        Named::Known(fluid) => prepare_of(fluid, t, c, greatest, least),
+        Named::Unknown => Prepared::Refused(Refusal::UnknownFluid),
+    }
 }

@@ -4,24 +4,21 @@ use mathlib.Core.List.{List, [], _∷_}
 use Prim.Native.Nat.{ℕ}
 use borrow.Author.Tests.{eq-eqb, ne-eqb}
 use lib.Ieee.{Float}
-use Rattle.refusals.specs.declared.Refusal.the-variants.{UnknownMark}
 use Rattle.refusals.specs.declared.Answer.{Answer}
-use Rattle.refusals.specs.declared.Answer.the-variants.{Refused}
-use Rattle.fluids.specs.declared.Fluid.{Fluid}
-use Rattle.probe_calls.specs.Calls.{lookUp, elementaryCalls}
+use Rattle.probe_calls.specs.Calls.{lookUp, answerOfNumbers}
 
-module _ (n m : ℕ) (a : Answer) (rows : List (ℕ × Answer)) where
-  pub found : n ≡ m → lookUp n ((m, a) ∷ rows) ≡ a
+module _ (n m : ℕ) (a : Answer) (rows : List (ℕ × Answer)) (other : Answer) where
+  pub found : n ≡ m → lookUp n ((m, a) ∷ rows) other ≡ a
   unfolding lookUp
   found p = rw (eq-eqb n m p)
 
-  pub passed-over : (n ≡ m → ⊥) → lookUp n ((m, a) ∷ rows) ≡ lookUp n rows
+  pub passed-over : (n ≡ m → ⊥) → lookUp n ((m, a) ∷ rows) other ≡ lookUp n rows other
   unfolding lookUp
   passed-over p = rw (ne-eqb n m p)
 
-pub none : (n : ℕ) → lookUp n [] ≡ Refused UnknownMark
+pub none : (n : ℕ) (other : Answer) → lookUp n [] other ≡ other
 unfolding lookUp
-none n = refl
+none n other = refl
 
-pub at-numbers : (F : Fluid) (n : ℕ) (a x b y : Float) → a ≡ x → b ≡ y → lookUp n (elementaryCalls F a b) ≡ lookUp n (elementaryCalls F x y)
-at-numbers F n a x b y p q = ap (λ (z : Float). lookUp n (elementaryCalls F z b)) p ∙ ap (λ (z : Float). lookUp n (elementaryCalls F x z)) q
+pub at-numbers : (n : ℕ) (a x b y : Float) → a ≡ x → b ≡ y → answerOfNumbers n a b ≡ answerOfNumbers n x y
+at-numbers n a x b y p q = ap (λ (z : Float). answerOfNumbers n z b) p ∙ ap (λ (z : Float). answerOfNumbers n x z) q

@@ -7,7 +7,6 @@ use native.Mathlib.Omega.{arith}
 use borrow.Rule.Slice.PartMut.{putMid}
 use lib.ListN.{length, take, drop, length-append}
 use Rattle.refusals.specs.declared.Answer.{Answer}
-use Rattle.fluids.specs.declared.Fluid.{Fluid}
 use Rattle.words.proofs.Tail.{tail-read}
 use Rattle.words.proofs.Written.{bytes-length}
 use Rattle.words.proofs.Blocks.{Blocks, Put, none-yet as none-put, whole-length, one-more as one-more-put}
@@ -18,51 +17,51 @@ unfolding replyBytes
 reply-length a = simp (length-append, bytes-length)
 
 -- the reply to the question k of s
-replyAt : Fluid → List ℕ → ℕ → List ℕ
-replyAt F s k = replyBytes (answerAt F (drop (24 * k) s))
+replyAt : List ℕ → ℕ → List ℕ
+replyAt s k = replyBytes (answerAt (drop (24 * k) s))
 
-replies : (F : Fluid) (s : List ℕ) → Blocks 16 (replyAt F s) (repliesOf F s)
+replies : (s : List ℕ) → Blocks 16 (replyAt s) (repliesOf s)
 unfolding repliesOf replyAt
-replies F s = record { start = refl; next = λ k. refl; size = λ k. reply-length (answerAt F (drop (24 * k) s)) }
+replies s = record { start = refl; next = λ k. refl; size = λ k. reply-length (answerAt (drop (24 * k) s)) }
 
 -- the first k questions of s are answered in out, which was out₀
-abbrev pub Answered : Fluid → List ℕ → List ℕ → List ℕ → ℕ → Type 0
-Answered F s out₀ out k = Put 16 (repliesOf F s) out₀ out k
+abbrev pub Answered : List ℕ → List ℕ → List ℕ → ℕ → Type 0
+Answered s out₀ out k = Put 16 (repliesOf s) out₀ out k
 
-pub none-yet : (F : Fluid) (s out : List ℕ) → Answered F s out out 0
-none-yet F s out = none-put 16 (replyAt F s) (repliesOf F s) (replies F s) out
+pub none-yet : (s out : List ℕ) → Answered s out out 0
+none-yet s out = none-put 16 (replyAt s) (repliesOf s) (replies s) out
 
 count-fits : (s out : List ℕ) → 16 * replyCount s out ≤ length out
 unfolding replyCount
 count-fits s out = omega arith
 
 -- what is written lies inside the list
-pub replies-inside : (F : Fluid) (s out now : List ℕ) (r : ℕ) → r ≡ 16 * replyCount s out → now ≡ withReplies F s out → r ≤ length now
+pub replies-inside : (s out now : List ℕ) (r : ℕ) → r ≡ 16 * replyCount s out → now ≡ withReplies s out → r ≤ length now
 unfolding withReplies
-replies-inside F s out now r p q =
-    rw (p, q, whole-length 16 (replyAt F s) (repliesOf F s) (replies F s) out (replyCount s out) (count-fits s out)) (count-fits s out)
+replies-inside s out now r p q =
+    rw (p, q, whole-length 16 (replyAt s) (repliesOf s) (replies s) out (replyCount s out) (count-fits s out)) (count-fits s out)
 
 pub one-more :
-    (F : Fluid) (s out₀ out p : List ℕ) (k : ℕ) (a : Answer) → Answered F s out₀ out k → 16 ≤ length out - 16 * k →
-    a ≡ answerAt F (take (length s - 24 * k) (drop (24 * k) s)) →
+    (s out₀ out p : List ℕ) (k : ℕ) (a : Answer) → Answered s out₀ out k → 16 ≤ length out - 16 * k →
+    a ≡ answerAt (take (length s - 24 * k) (drop (24 * k) s)) →
     p ≡ replyBytes a ++ drop 16 (take (length out - 16 * k) (drop (16 * k) out)) →
-    Answered F s out₀ (putMid (16 * k) (length out - 16 * k) out p) (k + 1)
+    Answered s out₀ (putMid (16 * k) (length out - 16 * k) out p) (k + 1)
 unfolding replyAt
-one-more F s out₀ out p k a h more q r =
-    one-more-put 16 (replyAt F s) (repliesOf F s) (replies F s) out₀ out p k h more
+one-more s out₀ out p k a h more q r =
+    one-more-put 16 (replyAt s) (repliesOf s) (replies s) out₀ out p k h more
     (r
-    ∙ ap (λ (x : Answer). replyBytes x ++ drop 16 (take (length out - 16 * k) (drop (16 * k) out))) (q ∙ ap (answerAt F) (tail-read (24 * k) s)))
+    ∙ ap (λ (x : Answer). replyBytes x ++ drop 16 (take (length out - 16 * k) (drop (16 * k) out))) (q ∙ ap answerAt (tail-read (24 * k) s)))
 
 -- there is no room for another, or no question is left
-module _ (F : Fluid) (s out₀ out : List ℕ) (k : ℕ) (h : Answered F s out₀ out k) where
-  ended : k ≡ replyCount s out₀ → (16 * k ≡ 16 * replyCount s out₀) × (out ≡ withReplies F s out₀)
+module _ (s out₀ out : List ℕ) (k : ℕ) (h : Answered s out₀ out k) where
+  ended : k ≡ replyCount s out₀ → (16 * k ≡ 16 * replyCount s out₀) × (out ≡ withReplies s out₀)
   unfolding withReplies
-  ended e = (ap (λ (n : ℕ). 16 * n) e, h .so-far ∙ ap (λ (n : ℕ). repliesOf F s n ++ drop (16 * n) out₀) e)
+  ended e = (ap (λ (n : ℕ). 16 * n) e, h .so-far ∙ ap (λ (n : ℕ). repliesOf s n ++ drop (16 * n) out₀) e)
 
-  pub stopped : 24 * k < length s → length out - 16 * k < 16 → (16 * k ≡ 16 * replyCount s out₀) × (out ≡ withReplies F s out₀)
+  pub stopped : 24 * k < length s → length out - 16 * k < 16 → (16 * k ≡ 16 * replyCount s out₀) × (out ≡ withReplies s out₀)
   unfolding replyCount
   stopped b c = ended (omega arith)
 
-  pub finished : length s ≤ 24 * k → 24 * k < length s + 24 → (16 * k ≡ 16 * replyCount s out₀) × (out ≡ withReplies F s out₀)
+  pub finished : length s ≤ 24 * k → 24 * k < length s + 24 → (16 * k ≡ 16 * replyCount s out₀) × (out ≡ withReplies s out₀)
   unfolding replyCount
   finished b c = ended (omega arith)

@@ -1,31 +1,32 @@
 -- A question is a call's number and the bits of two numbers; its answer is that of the call, and 14 where no call has the
 -- number.
-use mathlib.Core.List.{List, _∷_}
-use Prim.Native.Nat.{ℕ}
+use mathlib.Core.List.{List, [], _∷_}
+use Prim.Native.Nat.{ℕ, _/_, _%_}
 use lib.Ieee.{Float, binary64, ofBits}
-use Rattle.fluids.specs.declared.Fluid.{Fluid}
-use Rattle.fluids.specs.Entries.{entryOf}
+use Rattle.fluids.specs.declared.Named.{Named}
+use Rattle.fluids.specs.Entries.{entryOf, fluidNumbered}
 use Rattle.refusals.specs.declared.Answer.{Answer}
+use Rattle.refusals.specs.declared.Answer.the-variants.{Refused}
+use Rattle.inputs.specs.Numbered.{byName}
 use Rattle.search.specs.declared.Side.{Side}
 use Rattle.search.specs.declared.Side.the-variants.{FromBelow, FromAbove}
 use Rattle.density.specs.Calls.{quickOf}
 use Rattle.density.specs.Serving.{greatestAt, leastAt}
 use Rattle.outcomes.specs.Codes.{foundAnswerOf}
-use Rattle.probe_calls.specs.Calls.{elementaryCalls, lookUp}
+use Rattle.probe_calls.specs.Calls.{lookUp, answerOfNumbers}
 
--- the quick search up to the fluid's own top, over the lists that a preparation at T leaves
-unfoldable pub quickAnswer : Fluid → Side → Float → Float → Answer
-quickAnswer F side T P =
-    let c = entryOf F .topCells in
-    foundAnswerOf (quickOf F T P c side (greatestAt F T c) (leastAt F T c))
+-- the quick search up to the own top of the fluid that is named, over the lists that a preparation at T leaves; 17 where none is
+unfoldable pub quickAnswer : Named → Side → Float → Float → Answer
+quickAnswer named side T P =
+    byName Refused named
+    (λ F. let c = entryOf F .topCells in foundAnswerOf (quickOf F T P c side (greatestAt F T c) (leastAt F T c)))
 
--- those over prepared lists, then those of numbers alone
-abbrev pub calls : Fluid → Float → Float → List (ℕ × Answer)
-calls F x y =
-    (32, quickAnswer F FromBelow x y)
-    ∷ (33, quickAnswer F FromAbove x y)
-    ∷ elementaryCalls F x y
+-- the calls over prepared lists
+abbrev pub listCalls : Named → Float → Float → List (ℕ × Answer)
+listCalls named x y = (32, quickAnswer named FromBelow x y) ∷ (33, quickAnswer named FromAbove x y) ∷ []
 
--- every NaN pattern is handed on as a NaN
-unfoldable pub answerTo : Fluid → ℕ → ℕ → ℕ → Answer
-answerTo F call first second = lookUp call (calls F (ofBits binary64 first) (ofBits binary64 second))
+-- those over prepared lists, then those of numbers alone; every NaN pattern is handed on as a NaN
+unfoldable pub answerTo : ℕ → ℕ → ℕ → Answer
+answerTo call first second =
+    lookUp (call % 100) (listCalls (fluidNumbered (call / 100)) (ofBits binary64 first) (ofBits binary64 second))
+    (answerOfNumbers call (ofBits binary64 first) (ofBits binary64 second))

@@ -10,7 +10,6 @@ use Rattle.refusals.specs.declared.Answer.{Answer}
 use Rattle.refusals.specs.declared.Answer.the-variants.{Number, Refused}
 use Rattle.refusals.specs.Code.{answerCodeOf}
 use Rattle.words.specs.Word.{wordOf, bytesOf}
-use Rattle.fluids.specs.declared.Fluid.{Fluid}
 use Rattle.probe_replies.specs.Question.{answerTo}
 
 -- the number's bits, and all ones where refused
@@ -23,18 +22,18 @@ unfoldable pub replyBytes : Answer → List ℕ
 replyBytes a = bytesOf (answerCodeOf a) ++ bytesOf (answerBits a)
 
 -- the answer to the question at the front of s, and 15 where s is shorter than a question
-unfoldable pub answerAt : Fluid → List ℕ → Answer
-answerAt F s = cond (leb 24 (length s)) (answerTo F (wordOf s) (wordOf (drop 8 s)) (wordOf (drop 16 s))) (Refused CutShort)
+unfoldable pub answerAt : List ℕ → Answer
+answerAt s = cond (leb 24 (length s)) (answerTo (wordOf s) (wordOf (drop 8 s)) (wordOf (drop 16 s))) (Refused CutShort)
 
 -- the replies to the first k questions of s
-unfoldable pub repliesOf : Fluid → List ℕ → ℕ → List ℕ
-repliesOf F s zero = []
-repliesOf F s (suc k) = repliesOf F s k ++ replyBytes (answerAt F (drop (24 * k) s))
+unfoldable pub repliesOf : List ℕ → ℕ → List ℕ
+repliesOf s zero = []
+repliesOf s (suc k) = repliesOf s k ++ replyBytes (answerAt (drop (24 * k) s))
 
 -- how many replies there are: one for each question, the short piece at the end counted, as long as there is room
 unfoldable pub replyCount : List ℕ → List ℕ → ℕ
 replyCount s out = min ((length s + 23) / 24) (length out / 16)
 
 -- the replies in the first places, and the places after them as they were
-unfoldable pub withReplies : Fluid → List ℕ → List ℕ → List ℕ
-withReplies F s out = repliesOf F s (replyCount s out) ++ drop (16 * replyCount s out) out
+unfoldable pub withReplies : List ℕ → List ℕ → List ℕ
+withReplies s out = repliesOf s (replyCount s out) ++ drop (16 * replyCount s out) out

@@ -1,14 +1,17 @@
-// The questions of the program probe and their replies. The package's public calls are asked, so the fluid is theirs.
+// The questions of the program probe and their replies. The package's public calls are asked, of the fluid that the call's number names.
 //
 // A question is three little-endian words: the call's number and the bits of two numbers. A reply is
 // two: the code, and the number's bits, or all ones where refused.
 mod searches;
 
 use probe_calls::answer_of_numbers;
+use probe_calls::fluid_number;
 use refusals::Answer;
 use refusals::Refusal;
 use refusals::answer_code;
 use search::Side;
+use searches::Isotherm;
+use searches::NO_FLUID;
 use searches::places;
 use searches::prepare_for;
 use searches::quick_answer;
@@ -20,26 +23,24 @@ ghost use mathlib.Core.Path.{_≡_};
 ghost use mathlib.Core.List.{_++_};
 ghost use Prim.Native.Nat.{_*_, _≤_};
 ghost use lib.ListN.{length, drop};
-ghost use Rattle.fluids.specs.declared.Fluid.the-variants.{R245ca};
 ghost use Rattle.probe_replies.specs.Question.{answerTo};
 ghost use Rattle.probe_replies.specs.Serving.{KeptFor, ServesCall, ServesNext, NextServed, Places};
 ghost use Rattle.probe_replies.specs.Replies.{answerBits, replyBytes, answerAt, replyCount, withReplies};
 
-// The bits of a NaN: over any lists a quick search at a NaN is refused.
-const NO_TEMPERATURE: u64 = 9221120237041090560;
-
 // The answer of the call of that number at the numbers of the two bit patterns, over lists that serve it.
 fn answer_over(call: u64, first: u64, second: u64, greatest: &[f64], least: &[f64]) -> Answer
-    requires { ⌜ ServesCall R245ca call first (now greatest) (now least) ⌝ }
-    ensures { λ r. ⌜ r ≡ answerTo R245ca call first second ⌝ }
+    requires { ⌜ ServesCall call first (now greatest) (now least) ⌝ }
+    ensures { λ r. ⌜ r ≡ answerTo call first second ⌝ }
 {
     let x = number(first);
     let y = number(second);
-    if call == 32 {
-        return quick_answer(x, y, Side::FromBelow, greatest, least);
+    let fluid = fluid_number(call);
+    let which = call % 100;
+    if which == 32 {
+        return quick_answer(fluid, x, y, Side::FromBelow, greatest, least);
     }
-    if call == 33 {
-        return quick_answer(x, y, Side::FromAbove, greatest, least);
+    if which == 33 {
+        return quick_answer(fluid, x, y, Side::FromAbove, greatest, least);
     }
     answer_of_numbers(call, x, y)
 }
@@ -53,15 +54,15 @@ fn answer_fresh(
     least: &mut [f64],
 ) -> Answer
     requires { ⌜ Places (now greatest) (now least) ⌝ }
-    ensures { λ r. ⌜ r ≡ answerTo R245ca call first second ⌝ }
+    ensures { λ r. ⌜ r ≡ answerTo call first second ⌝ }
 {
-    let kept = prepare_for(call, first, NO_TEMPERATURE, greatest, least);
+    let kept = prepare_for(call, first, NO_FLUID, greatest, least);
     answer_over(call, first, second, greatest, least)
 }
 
 // The answer of the call of that number at the numbers of the two bit patterns.
 pub fn answer_to(call: u64, first: u64, second: u64) -> Answer
-    ensures { λ r. ⌜ r ≡ answerTo R245ca call first second ⌝ }
+    ensures { λ r. ⌜ r ≡ answerTo call first second ⌝ }
 {
     let mut greatest = places();
     let mut least = places();
@@ -78,11 +79,11 @@ fn answer_bits(a: Answer) -> u64
     }
 }
 
-// Prepares the lists for the next question, at the front of a slice, if it is over lists and they serve another temperature; the bits that
+// Prepares the lists for the next question, at the front of a slice, if it is over lists and they serve another fluid or temperature; what
 // they serve afterwards.
-fn prepare_next(next: &[u8], kept: u64, greatest: &mut [f64], least: &mut [f64]) -> u64
-    requires { ⌜ KeptFor R245ca kept (now greatest) (now least) ⌝ }
-    ensures { λ r. ⌜ NextServed R245ca (now (next .entry)) r (now (greatest .exit)) (now (least .exit)) ⌝ }
+fn prepare_next(next: &[u8], kept: Isotherm, greatest: &mut [f64], least: &mut [f64]) -> Isotherm
+    requires { ⌜ KeptFor kept (now greatest) (now least) ⌝ }
+    ensures { λ r. ⌜ NextServed (now (next .entry)) r (now (greatest .exit)) (now (least .exit)) ⌝ }
 {
     if next.len() < 24 {
         return kept;
@@ -94,8 +95,8 @@ fn prepare_next(next: &[u8], kept: u64, greatest: &mut [f64], least: &mut [f64])
 
 // The answer to the question at the front of s, over lists that serve it; 15 where s is shorter than a question.
 fn answer_at(s: &[u8], greatest: &[f64], least: &[f64]) -> Answer
-    requires { ⌜ ServesNext R245ca (now s) (now greatest) (now least) ⌝ }
-    ensures { λ r. ⌜ r ≡ answerAt R245ca (now (s .entry)) ⌝ }
+    requires { ⌜ ServesNext (now s) (now greatest) (now least) ⌝ }
+    ensures { λ r. ⌜ r ≡ answerAt (now (s .entry)) ⌝ }
 {
     if s.len() < 24 {
         return Answer::Refused(Refusal::CutShort);
@@ -116,13 +117,13 @@ fn put_reply(out: &mut [u8], a: Answer)
     put_word(&mut out[8..], answer_bits(a));
 }
 
-// The replies, with two lists that are kept while the bits of the temperature stay the same.
+// The replies, with two lists that are kept while the fluid and the bits of the temperature stay the same.
 fn put_replies_over(input: &[u8], out: &mut [u8], greatest: &mut [f64], least: &mut [f64]) -> usize
     requires { ⌜ Places (now greatest) (now least) ⌝ }
     ensures { λ r. ⌜ r ≡ 16 * replyCount (now (input .entry)) (now (out .entry)) ⌝ }
-    ensures { λ _. ⌜ now (out .exit) ≡ withReplies R245ca (now (input .entry)) (now (out .entry)) ⌝ }
+    ensures { λ _. ⌜ now (out .exit) ≡ withReplies (now (input .entry)) (now (out .entry)) ⌝ }
 {
-    let mut kept: u64 = NO_TEMPERATURE;
+    let mut kept = NO_FLUID;
     let mut k: usize = 0;
     while 24 * k < input.len() {
         let from = 24 * k;
@@ -142,7 +143,7 @@ fn put_replies_over(input: &[u8], out: &mut [u8], greatest: &mut [f64], least: &
 // and how many bytes they take. A piece shorter than a question at the end gets one reply, 15.
 pub fn put_replies(input: &[u8], out: &mut [u8]) -> usize
     ensures { λ r. ⌜ r ≡ 16 * replyCount (now (input .entry)) (now (out .entry)) ⌝ }
-    ensures { λ _. ⌜ now (out .exit) ≡ withReplies R245ca (now (input .entry)) (now (out .entry)) ⌝ }
+    ensures { λ _. ⌜ now (out .exit) ≡ withReplies (now (input .entry)) (now (out .entry)) ⌝ }
 {
     let mut greatest = places();
     let mut least = places();

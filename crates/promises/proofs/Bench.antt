@@ -79,7 +79,7 @@ bench-quick-word-one κs a x y e f p q = p ∙ sym q
 
 -- both lists as well
 pub bench-prepare-one :
-    OneOutcome _ bench-prepare-kinds.ps bench-prepare-kinds.r (List Float × List Float) (λ κs e. (now (e .1 .1 .0), now (e .1 .1 .1 .0))) bench-prepare-reads.Learnt
+    OneOutcome _ bench-prepare-kinds.ps bench-prepare-kinds.r (List Float × List Float) (λ κs e. (now (e .1 .1 .1 .0), now (e .1 .1 .1 .1 .0))) bench-prepare-reads.Learnt
 bench-prepare-one κs a x y e f p q =
     let greatest = p .1 ∙ sym (q .1) in
     let least = p .2 ∙ sym (q .2) in

@@ -1,6 +1,8 @@
 -- Each public call of the crate `fluids` promises one outcome: its contract gives it by a definition of its arguments.
 use mathlib.Core.Path.{sym, _∙_}
 use Rattle.promises.specs.OneOutcome.{OneResult}
+use Rattle.fluids.proofs.fluid_numbered.Kinds as fluid-numbered-kinds
+use Rattle.fluids.proofs.fluid_numbered.Reads as fluid-numbered-reads
 use Rattle.fluids.proofs.single_numbers.Kinds as single-numbers-kinds
 use Rattle.fluids.proofs.single_numbers.Reads as single-numbers-reads
 use Rattle.fluids.proofs.terms.Kinds as terms-kinds
@@ -11,6 +13,9 @@ use Rattle.fluids.proofs.estimate_count.Kinds as estimate-count-kinds
 use Rattle.fluids.proofs.estimate_count.Reads as estimate-count-reads
 use Rattle.fluids.proofs.estimate_terms.Kinds as estimate-terms-kinds
 use Rattle.fluids.proofs.estimate_terms.Reads as estimate-terms-reads
+
+pub fluid-numbered-one : OneResult _ fluid-numbered-kinds.ps fluid-numbered-kinds.r fluid-numbered-reads.Learnt
+fluid-numbered-one κs a x y e f p q = p ∙ sym q
 
 pub single-numbers-one : OneResult _ single-numbers-kinds.ps single-numbers-kinds.r single-numbers-reads.Learnt
 single-numbers-one κs a x y e f p q = p ∙ sym q

@@ -8,7 +8,7 @@ use Rattle.preparation.proofs.prepare.Kinds as prepare-kinds
 use Rattle.preparation.proofs.prepare.Reads as prepare-reads
 
 -- both lists as well
-pub prepare-one : OneOutcome _ prepare-kinds.ps prepare-kinds.r (List Float × List Float) (λ κs e. (now (e .1 .1 .0), now (e .1 .1 .1 .0))) prepare-reads.Learnt
+pub prepare-one : OneOutcome _ prepare-kinds.ps prepare-kinds.r (List Float × List Float) (λ κs e. (now (e .1 .1 .1 .0), now (e .1 .1 .1 .1 .0))) prepare-reads.Learnt
 prepare-one κs a x y e f p q =
     let greatest = p .1 ∙ sym (q .1) in
     let least = p .2 ∙ sym (q .2) in

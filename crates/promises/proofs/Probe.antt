@@ -4,12 +4,22 @@ use mathlib.Core.List.{List}
 use Prim.Native.Nat.{ℕ}
 use denote.Ref.{now}
 use Rattle.promises.specs.OneOutcome.{OneResult, OneOutcome}
+use Rattle.probe_calls.proofs.fluid_number.Kinds as fluid-number-kinds
+use Rattle.probe_calls.proofs.fluid_number.Reads as fluid-number-reads
+use Rattle.probe_calls.proofs.own_top.Kinds as own-top-kinds
+use Rattle.probe_calls.proofs.own_top.Reads as own-top-reads
 use Rattle.probe_calls.proofs.answer_of_numbers.Kinds as answer-of-numbers-kinds
 use Rattle.probe_calls.proofs.answer_of_numbers.Reads as answer-of-numbers-reads
 use Rattle.probe_replies.proofs.answer_to.Kinds as answer-to-kinds
 use Rattle.probe_replies.proofs.answer_to.Reads as answer-to-reads
 use Rattle.probe_replies.proofs.put_replies.Kinds as put-replies-kinds
 use Rattle.probe_replies.proofs.put_replies.Reads as put-replies-reads
+
+pub fluid-number-one : OneResult _ fluid-number-kinds.ps fluid-number-kinds.r fluid-number-reads.Learnt
+fluid-number-one κs a x y e f p q = p .0 ∙ sym (q .0)
+
+pub own-top-one : OneResult _ own-top-kinds.ps own-top-kinds.r own-top-reads.Learnt
+own-top-one κs a x y e f p q = p ∙ sym q
 
 pub answer-of-numbers-one : OneResult _ answer-of-numbers-kinds.ps answer-of-numbers-kinds.r answer-of-numbers-reads.Learnt
 answer-of-numbers-one κs a x y e f p q = p ∙ sym q

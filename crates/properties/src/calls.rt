@@ -1,4 +1,4 @@
-// The nine properties as calls on R-245ca: a number, or a numbered refusal. Units: K, mol/dm³, Pa, J/mol, J/(mol K), m/s.
+// The nine properties as calls on the fluid of a number: a number, or a numbered refusal. Units: K, mol/dm³, Pa, J/mol, J/(mol K), m/s.
 use crate::Property;
 use arithmetic::answer_from;
 use arithmetic::both_finite;
@@ -7,6 +7,8 @@ use equation::State;
 use equation::pressure_at;
 use equation::state_at;
 use fluids::Fluid;
+use fluids::Named;
+use fluids::fluid_numbered;
 use inputs::potential_inputs;
 use inputs::state_inputs;
 use kept::keep;
@@ -24,7 +26,8 @@ use values::gibbs_value;
 use values::helmholtz_value;
 use values::isochoric_value;
 ghost use mathlib.Core.Path.{_≡_};
-ghost use Rattle.fluids.specs.declared.Fluid.the-variants.{R245ca};
+ghost use Rattle.refusals.specs.declared.Answer.the-variants.{Refused};
+ghost use Rattle.inputs.specs.Numbered.{byNumber};
 ghost use Rattle.equation.specs.State.{stateAt};
 ghost use Rattle.properties.specs.Calls as Calls;
 
@@ -134,66 +137,77 @@ pub fn answer_of(property: Property, fluid: Fluid, t: f64, rho: f64) -> Answer
     }
 }
 
-// Pressure at T and ρ: 2, 3, 4, 12; 12 never occurs (docs/NO-ANSWER.md).
-pub fn pressure(t: f64, rho: f64) -> Answer
-    ensures { λ r. ⌜ r ≡ Calls.pressureOf R245ca t rho ⌝ }
+// The property of the fluid of a number: 17, then as `answer_of` refuses.
+fn answer_numbered(property: Property, number: u32, t: f64, rho: f64) -> Answer
+    ensures { λ r. ⌜ r ≡ byNumber Refused number (λ F. Calls.callOf property F t rho) ⌝ }
 {
-    answer_of(Property::Pressure, Fluid::R245ca, t, rho)
+    let named = fluid_numbered(number);
+    match named {
+        Named::Known(fluid) => answer_of(property, fluid, t, rho),
+        Named::Unknown => Answer::Refused(Refusal::UnknownFluid),
+    }
 }
 
-// Energy at T and ρ: 2, 3, 4, 12; 12 never occurs (docs/NO-ANSWER.md).
-pub fn energy(t: f64, rho: f64) -> Answer
-    ensures { λ r. ⌜ r ≡ Calls.energyOf R245ca t rho ⌝ }
+// Pressure at T and ρ: 17, 2, 3, 4, 12; 12 never occurs (docs/NO-ANSWER.md).
+pub fn pressure(number: u32, t: f64, rho: f64) -> Answer
+    ensures { λ r. ⌜ r ≡ byNumber Refused number (λ F. Calls.pressureOf F t rho) ⌝ }
 {
-    answer_of(Property::Energy, Fluid::R245ca, t, rho)
+    answer_numbered(Property::Pressure, number, t, rho)
 }
 
-// Enthalpy at T and ρ: 2, 3, 4, 12; 12 never occurs (docs/NO-ANSWER.md).
-pub fn enthalpy(t: f64, rho: f64) -> Answer
-    ensures { λ r. ⌜ r ≡ Calls.enthalpyOf R245ca t rho ⌝ }
+// Energy at T and ρ: 17, 2, 3, 4, 12; 12 never occurs (docs/NO-ANSWER.md).
+pub fn energy(number: u32, t: f64, rho: f64) -> Answer
+    ensures { λ r. ⌜ r ≡ byNumber Refused number (λ F. Calls.energyOf F t rho) ⌝ }
 {
-    answer_of(Property::Enthalpy, Fluid::R245ca, t, rho)
+    answer_numbered(Property::Energy, number, t, rho)
 }
 
-// Isochoric heat capacity at T and ρ: 2, 3, 4, 12; 12 never occurs (docs/NO-ANSWER.md).
-pub fn isochoric_heat_capacity(t: f64, rho: f64) -> Answer
-    ensures { λ r. ⌜ r ≡ Calls.isochoricOf R245ca t rho ⌝ }
+// Enthalpy at T and ρ: 17, 2, 3, 4, 12; 12 never occurs (docs/NO-ANSWER.md).
+pub fn enthalpy(number: u32, t: f64, rho: f64) -> Answer
+    ensures { λ r. ⌜ r ≡ byNumber Refused number (λ F. Calls.enthalpyOf F t rho) ⌝ }
 {
-    answer_of(Property::IsochoricHeatCapacity, Fluid::R245ca, t, rho)
+    answer_numbered(Property::Enthalpy, number, t, rho)
 }
 
-// Entropy at T and ρ: 2, 3, 4, 10, 12.
-pub fn entropy(t: f64, rho: f64) -> Answer
-    ensures { λ r. ⌜ r ≡ Calls.entropyOf R245ca t rho ⌝ }
+// Isochoric heat capacity at T and ρ: 17, 2, 3, 4, 12; 12 never occurs (docs/NO-ANSWER.md).
+pub fn isochoric_heat_capacity(number: u32, t: f64, rho: f64) -> Answer
+    ensures { λ r. ⌜ r ≡ byNumber Refused number (λ F. Calls.isochoricOf F t rho) ⌝ }
 {
-    answer_of(Property::Entropy, Fluid::R245ca, t, rho)
+    answer_numbered(Property::IsochoricHeatCapacity, number, t, rho)
 }
 
-// Gibbs energy at T and ρ: 2, 3, 4, 10, 12.
-pub fn gibbs_energy(t: f64, rho: f64) -> Answer
-    ensures { λ r. ⌜ r ≡ Calls.gibbsOf R245ca t rho ⌝ }
+// Entropy at T and ρ: 17, 2, 3, 4, 10, 12.
+pub fn entropy(number: u32, t: f64, rho: f64) -> Answer
+    ensures { λ r. ⌜ r ≡ byNumber Refused number (λ F. Calls.entropyOf F t rho) ⌝ }
 {
-    answer_of(Property::GibbsEnergy, Fluid::R245ca, t, rho)
+    answer_numbered(Property::Entropy, number, t, rho)
 }
 
-// Helmholtz energy at T and ρ: 2, 3, 4, 10, 12.
-pub fn helmholtz_energy(t: f64, rho: f64) -> Answer
-    ensures { λ r. ⌜ r ≡ Calls.helmholtzOf R245ca t rho ⌝ }
+// Gibbs energy at T and ρ: 17, 2, 3, 4, 10, 12.
+pub fn gibbs_energy(number: u32, t: f64, rho: f64) -> Answer
+    ensures { λ r. ⌜ r ≡ byNumber Refused number (λ F. Calls.gibbsOf F t rho) ⌝ }
 {
-    answer_of(Property::HelmholtzEnergy, Fluid::R245ca, t, rho)
+    answer_numbered(Property::GibbsEnergy, number, t, rho)
 }
 
-// Isobaric heat capacity at T and ρ: 2, 3, 4, then 12 and 11 as the work meets them. Whether 12 occurs is not decided
+// Helmholtz energy at T and ρ: 17, 2, 3, 4, 10, 12.
+pub fn helmholtz_energy(number: u32, t: f64, rho: f64) -> Answer
+    ensures { λ r. ⌜ r ≡ byNumber Refused number (λ F. Calls.helmholtzOf F t rho) ⌝ }
+{
+    answer_numbered(Property::HelmholtzEnergy, number, t, rho)
+}
+
+// Isobaric heat capacity at T and ρ: 17, 2, 3, 4, then 12 and 11 as the work meets them. Whether 12 occurs is not decided
 // (docs/NO-ANSWER.md).
-pub fn isobaric_heat_capacity(t: f64, rho: f64) -> Answer
-    ensures { λ r. ⌜ r ≡ Calls.isobaricOf R245ca t rho ⌝ }
+pub fn isobaric_heat_capacity(number: u32, t: f64, rho: f64) -> Answer
+    ensures { λ r. ⌜ r ≡ byNumber Refused number (λ F. Calls.isobaricOf F t rho) ⌝ }
 {
-    answer_of(Property::IsobaricHeatCapacity, Fluid::R245ca, t, rho)
+    answer_numbered(Property::IsobaricHeatCapacity, number, t, rho)
 }
 
-// Sound speed at T and ρ: 2, 3, 4, then 12 and 11 as the work meets them.
-pub fn sound_speed(t: f64, rho: f64) -> Answer
-    ensures { λ r. ⌜ r ≡ Calls.soundSpeedOf R245ca t rho ⌝ }
+// Sound speed at T and ρ: 17, 2, 3, 4, then 12 and 11 as the work meets them.
+pub fn sound_speed(number: u32, t: f64, rho: f64) -> Answer
+    ensures { λ r. ⌜ r ≡ byNumber Refused number (λ F. Calls.soundSpeedOf F t rho) ⌝ }
 {
-    answer_of(Property::SoundSpeed, Fluid::R245ca, t, rho)
+    answer_numbered(Property::SoundSpeed, number, t, rho)
 }

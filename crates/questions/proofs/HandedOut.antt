@@ -14,7 +14,6 @@ use Rattle.refusals.specs.Order.{permitted}
 use Rattle.arithmetic.specs.Answered.{answerFrom}
 use Rattle.arithmetic.proofs.Answered.{HandsOutFinite, answer-from-hands-out-finite}
 use Rattle.fluids.specs.declared.Fluid.{Fluid}
-use Rattle.fluids.specs.declared.Fluid.the-variants.{R245ca}
 use Rattle.fluids.specs.Entries.{entryOf}
 use Rattle.kept.specs.Kept.{keptOf}
 use Rattle.equation.specs.State.{stateAt, pressureValue}
@@ -72,15 +71,15 @@ density-finite F T P side = go (searchPermit F T P (entryOf F .topCells) true) r
         let p = pressuresOf F T in
         place-finite F T side (plainStepOf side p P c) (plain-inside p P c (asked .top) side)
 
-work-finite : (F : Fluid) (asked : Question) → HandsOutFinite (workOf F asked)
-work-finite F (State T ρ) = pressure-finite F T ρ
-work-finite F (Search T P side) = density-finite F T P side
-work-finite F (Question.Refused r) = tt
+work-finite : (asked : Question) → HandsOutFinite (workOf asked)
+work-finite (State F T ρ) = pressure-finite F T ρ
+work-finite (Search F T P side) = density-finite F T P side
+work-finite (Question.Refused r) = tt
 
 pub answer-finite : (s : List ℕ) → HandsOutFinite (answerOf s)
 unfolding answerOf
-answer-finite s = work-finite R245ca (questionOf s)
+answer-finite s = work-finite (questionOf s)
 
 pub call-finite : (s : List ℕ) (room : ℕ) → HandsOutFinite (callOf s room)
 unfolding callOf
-call-finite s room = permitted-finite (permitOf R245ca (questionOf s) room) (workOf R245ca (questionOf s)) (work-finite R245ca (questionOf s))
+call-finite s room = permitted-finite (permitOf (questionOf s) room) (workOf (questionOf s)) (work-finite (questionOf s))

@@ -19,7 +19,6 @@ use Rattle.words.specs.Word.{bytesOf, withWord}
 use Rattle.words.proofs.Written.{bytes-length, word-written, word-not-written}
 use Rattle.arithmetic.specs.Answered.{answerFrom}
 use Rattle.fluids.specs.declared.Fluid.{Fluid}
-use Rattle.fluids.specs.declared.Fluid.the-variants.{R245ca}
 use Rattle.fluids.specs.Entries.{entryOf}
 use Rattle.equation.specs.State.{stateAt, pressureValue}
 use Rattle.properties.specs.Calls.{pressureOf, workedDensity}
@@ -52,7 +51,7 @@ unfolding searchPermit askedPermit
 search-inputs F T P = simp (top-permitted F)
 
 module _ (F : Fluid) (T : Float) where
-  state-work : (ρ : Float) → permitted (inputsOf F (State T ρ)) (pressureOf F T ρ) ≡ pressureOf F T ρ
+  state-work : (ρ : Float) → permitted (inputsOf (State F T ρ)) (pressureOf F T ρ) ≡ pressureOf F T ρ
   unfolding pressureOf
   state-work ρ = twice (statePermit F T ρ) (answerFrom (pressureValue (stateAt F T (workedDensity ρ))))
 
@@ -60,21 +59,21 @@ module _ (F : Fluid) (T : Float) where
     found : Found
     found = foundStateOf F T side (plainStepOf side (pressuresOf F T) P (entryOf F .topCells))
 
-    density-is : densityAt F T P side ≡ permitted (inputsOf F (Search T P side)) (foundAnswerOf found)
+    density-is : densityAt F T P side ≡ permitted (inputsOf (Search F T P side)) (foundAnswerOf found)
     unfolding densityAt plainOf found
     density-is =
         found-permitted (searchPermit F T P (entryOf F .topCells) true) found
         ∙ ap (λ (p : Permit). permitted p (foundAnswerOf found)) (search-inputs F T P)
 
-    search-work : permitted (inputsOf F (Search T P side)) (densityAt F T P side) ≡ densityAt F T P side
+    search-work : permitted (inputsOf (Search F T P side)) (densityAt F T P side) ≡ densityAt F T P side
     search-work =
-        let p = inputsOf F (Search T P side) in
+        let p = inputsOf (Search F T P side) in
         ap (permitted p) density-is ∙ twice p (foundAnswerOf found) ∙ sym density-is
 
-work-permitted : (F : Fluid) (asked : Question) → permitted (inputsOf F asked) (workOf F asked) ≡ workOf F asked
-work-permitted F (State T ρ) = state-work F T ρ
-work-permitted F (Search T P side) = search-work F T P side
-work-permitted F (Question.Refused r) = refl
+work-permitted : (asked : Question) → permitted (inputsOf asked) (workOf asked) ≡ workOf asked
+work-permitted (State F T ρ) = state-work F T ρ
+work-permitted (Search F T P side) = search-work F T P side
+work-permitted (Question.Refused r) = refl
 
 -- ---- the room
 
@@ -85,16 +84,16 @@ room-last (Denied r) room a h = refl
 -- with room for the number, the call answers what the program prints
 pub with-room : (s : List ℕ) (room : ℕ) → 8 ≤ room → callOf s room ≡ answerOf s
 unfolding callOf permitOf answerOf
-with-room s room h = room-last (inputsOf R245ca (questionOf s)) room (workOf R245ca (questionOf s)) h ∙ work-permitted R245ca (questionOf s)
+with-room s room h = room-last (inputsOf (questionOf s)) room (workOf (questionOf s)) h ∙ work-permitted (questionOf s)
 
 no-room : (p : Permit) (room : ℕ) (a : Answer) → room < 8 → permitted (testedOf p (leb 8 room) TooShort) a ≡ permitted p (Refused TooShort)
 no-room Granted room a h = simp (lt-leb 8 room h)
 no-room (Denied r) room a h = refl
 
 -- without, it answers 7 unless 15, 14, 1, 2, 3, 4 or 5 comes before
-pub without-room : (s : List ℕ) (room : ℕ) → room < 8 → callOf s room ≡ permitted (inputsOf R245ca (questionOf s)) (Refused TooShort)
+pub without-room : (s : List ℕ) (room : ℕ) → room < 8 → callOf s room ≡ permitted (inputsOf (questionOf s)) (Refused TooShort)
 unfolding callOf permitOf
-without-room s room h = no-room (inputsOf R245ca (questionOf s)) room (workOf R245ca (questionOf s)) h
+without-room s room h = no-room (inputsOf (questionOf s)) room (workOf (questionOf s)) h
 
 -- ---- the output
 

@@ -6,7 +6,6 @@ use Rattle.refusals.specs.declared.Refusal.{Refusal}
 use Rattle.refusals.specs.declared.Refusal.the-variants.{UnknownMark, CutShort}
 use Rattle.refusals.specs.declared.Answer.{Answer}
 use Rattle.fluids.specs.declared.Fluid.{Fluid}
-use Rattle.fluids.specs.declared.Fluid.the-variants.{R245ca}
 use Rattle.fluids.specs.Entries.{entryOf}
 use Rattle.properties.specs.Calls.{pressureOf}
 use Rattle.search.specs.declared.Side.{Side}
@@ -21,15 +20,15 @@ use Rattle.questions.specs.declared.Question.{Question}
 use Rattle.questions.specs.declared.Question.the-variants.{State, Search}
 
 -- no side given is taken from below
-abbrev pub askedBy : Kind → Float → Float → Question
-askedBy Density T ρ = State T ρ
-askedBy Kind.FromBelow T P = Search T P Side.FromBelow
-askedBy Kind.FromAbove T P = Search T P Side.FromAbove
-askedBy NoSide T P = Search T P Side.FromBelow
+abbrev pub askedBy : Fluid → Kind → Float → Float → Question
+askedBy F Density T ρ = State F T ρ
+askedBy F Kind.FromBelow T P = Search F T P Side.FromBelow
+askedBy F Kind.FromAbove T P = Search F T P Side.FromAbove
+askedBy F NoSide T P = Search F T P Side.FromBelow
 
 -- the numbers of the bits, every NaN pattern a NaN; or 1, 14, 15
 abbrev pub askedOf : Record → Question
-askedOf (Numbers kind x y) = askedBy kind (ofBits binary64 x) (ofBits binary64 y)
+askedOf (Numbers F kind x y) = askedBy F kind (ofBits binary64 x) (ofBits binary64 y)
 askedOf Record.NoReading = Question.Refused Refusal.NoReading
 askedOf Unknown = Question.Refused UnknownMark
 askedOf Cut = Question.Refused CutShort
@@ -43,11 +42,10 @@ questionOf s = askedOf (recordOf s)
 unfoldable pub densityAt : Fluid → Float → Float → Side → Answer
 densityAt F T P side = foundAnswerOf (plainOf F T P (entryOf F .topCells) side)
 
-abbrev pub workOf : Fluid → Question → Answer
-workOf F (State T ρ) = pressureOf F T ρ
-workOf F (Search T P side) = densityAt F T P side
-workOf F (Question.Refused r) = Answer.Refused r
+abbrev pub workOf : Question → Answer
+workOf (State F T ρ) = pressureOf F T ρ
+workOf (Search F T P side) = densityAt F T P side
+workOf (Question.Refused r) = Answer.Refused r
 
--- a record's mark begins with T: it is of R-245ca
 unfoldable pub answerOf : List ℕ → Answer
-answerOf s = workOf R245ca (questionOf s)
+answerOf s = workOf (questionOf s)

@@ -13,26 +13,24 @@ use Rattle.refusals.specs.declared.Answer.the-variants.{Number}
 use Rattle.refusals.specs.Code.{answerCodeOf}
 use Rattle.refusals.specs.Order.{testedOf, permitted}
 use Rattle.words.specs.Word.{withWord}
-use Rattle.fluids.specs.declared.Fluid.{Fluid}
-use Rattle.fluids.specs.declared.Fluid.the-variants.{R245ca}
 use Rattle.inputs.specs.Inputs.{statePermit, askedPermit}
 use Rattle.questions.specs.declared.Question.{Question}
 use Rattle.questions.specs.declared.Question.the-variants.{State, Search}
 use Rattle.questions.specs.Asked.{questionOf, workOf}
 
 -- 15, 14, 1 stand in the question; then 2, 3, and 4 or 5
-abbrev pub inputsOf : Fluid → Question → Permit
-inputsOf F (State T ρ) = statePermit F T ρ
-inputsOf F (Search T P side) = askedPermit F T P
-inputsOf F (Question.Refused r) = Denied r
+abbrev pub inputsOf : Question → Permit
+inputsOf (State F T ρ) = statePermit F T ρ
+inputsOf (Search F T P side) = askedPermit F T P
+inputsOf (Question.Refused r) = Denied r
 
 -- 7 after those: an output under 8 bytes
-unfoldable pub permitOf : Fluid → Question → ℕ → Permit
-permitOf F question room = testedOf (inputsOf F question) (leb 8 room) TooShort
+unfoldable pub permitOf : Question → ℕ → Permit
+permitOf question room = testedOf (inputsOf question) (leb 8 room) TooShort
 
--- what is handed out for the record s, of R-245ca by its mark, where the output has room bytes
+-- what is handed out for the record s where the output has room bytes
 unfoldable pub callOf : List ℕ → ℕ → Answer
-callOf s room = permitted (permitOf R245ca (questionOf s) room) (workOf R245ca (questionOf s))
+callOf s room = permitted (permitOf (questionOf s) room) (workOf (questionOf s))
 
 -- the output afterwards: the number's bits in its first eight bytes, the lowest first; as it was where refused
 abbrev pub outputOf : Answer → List ℕ → List ℕ

@@ -2,7 +2,6 @@
 use crate::Question;
 use crate::work::asked;
 use crate::work::worked;
-use fluids::Fluid;
 use inputs::asked_inputs;
 use inputs::state_inputs;
 use records::read;
@@ -18,21 +17,21 @@ ghost use Rattle.refusals.specs.Code.{answerCodeOf};
 ghost use Rattle.questions.specs.Call.{inputsOf, permitOf, outputOf, callCode, callOutput};
 
 // 15, 14, 1, 2, 3, 4, 5.
-fn inputs(fluid: Fluid, question: Question) -> Permit
-    ensures { λ r. ⌜ r ≡ inputsOf fluid question ⌝ }
+fn inputs(question: Question) -> Permit
+    ensures { λ r. ⌜ r ≡ inputsOf question ⌝ }
 {
     match question {
-        Question::State(t, rho) => state_inputs(fluid, t, rho),
-        Question::Search(t, p, _) => asked_inputs(fluid, t, p),
+        Question::State(fluid, t, rho) => state_inputs(fluid, t, rho),
+        Question::Search(fluid, t, p, _) => asked_inputs(fluid, t, p),
         Question::Refused(r) => Permit::Denied(r),
     }
 }
 
 // 7 after those, where the output has less than 8 bytes.
-fn permit(fluid: Fluid, question: Question, room: usize) -> Permit
-    ensures { λ r. ⌜ r ≡ permitOf fluid question room ⌝ }
+fn permit(question: Question, room: usize) -> Permit
+    ensures { λ r. ⌜ r ≡ permitOf question room ⌝ }
 {
-    let before = inputs(fluid, question);
+    let before = inputs(question);
     tested(before, 8 <= room, Refusal::TooShort)
 }
 
@@ -49,7 +48,7 @@ fn handed_out(a: Answer, out: &mut [u8]) -> u32
     }
 }
 
-// Answers a record of exactly 18 bytes, of R-245ca by its mark, up to the fluid's own top where it searches: 0, and the bits of the pressure in Pa or
+// Answers a record of exactly 18 bytes, of the fluid of its mark, up to that fluid's own top where it searches: 0, and the bits of the pressure in Pa or
 // of the density in mol/dm³ in the first eight bytes of out, the lowest first; or the refusal's number, and out as it was.
 pub fn answer_into(marked: &[u8], out: &mut [u8]) -> u32
     ensures { λ r. ⌜ (r ≡ callCode (now (marked .entry)) (now (out .entry)))
@@ -57,11 +56,11 @@ pub fn answer_into(marked: &[u8], out: &mut [u8]) -> u32
 {
     let question = asked(read(marked));
     let room = out.len();
-    let permitted = permit(Fluid::R245ca, question, room);
+    let permitted = permit(question, room);
     match permitted {
         Permit::Denied(r) => code(r),
         Permit::Granted => {
-            let a = worked(Fluid::R245ca, question);
+            let a = worked(question);
             handed_out(a, out)
         }
     }

@@ -5,6 +5,7 @@ mod call;
 mod work;
 
 pub use call::answer_into;
+use fluids::Fluid;
 use refusals::Refusal;
 use search::Side;
 pub use work::answer;
@@ -13,10 +14,10 @@ pub use work::density_at;
 
 // What a record asks.
 pub enum Question {
-    // the pressure at T and ρ
-    State(f64, f64),
-    // the density at T and P, from a side
-    Search(f64, f64, Side),
+    // the pressure of a fluid at T and ρ
+    State(Fluid, f64, f64),
+    // its density at T and P, from a side
+    Search(Fluid, f64, f64, Side),
     // nothing: 15, 14 or 1
     Refused(Refusal),
 }

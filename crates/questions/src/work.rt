@@ -15,15 +15,15 @@ use words::number;
 ghost use mathlib.Core.Path.{_≡_};
 ghost use Rattle.questions.specs.Asked.{askedBy, askedOf, densityAt, workOf, answerOf};
 
-// What two numbers of a kind ask; no side given is taken from below.
-fn asked_by(kind: Kind, t: f64, x: f64) -> Question
-    ensures { λ r. ⌜ r ≡ askedBy kind t x ⌝ }
+// What two numbers of a kind ask of a fluid; no side given is taken from below.
+fn asked_by(fluid: Fluid, kind: Kind, t: f64, x: f64) -> Question
+    ensures { λ r. ⌜ r ≡ askedBy fluid kind t x ⌝ }
 {
     match kind {
-        Kind::Density => Question::State(t, x),
-        Kind::FromBelow => Question::Search(t, x, Side::FromBelow),
-        Kind::FromAbove => Question::Search(t, x, Side::FromAbove),
-        Kind::NoSide => Question::Search(t, x, Side::FromBelow),
+        Kind::Density => Question::State(fluid, t, x),
+        Kind::FromBelow => Question::Search(fluid, t, x, Side::FromBelow),
+        Kind::FromAbove => Question::Search(fluid, t, x, Side::FromAbove),
+        Kind::NoSide => Question::Search(fluid, t, x, Side::FromBelow),
     }
 }
 
@@ -32,7 +32,7 @@ pub fn asked(marked: Record) -> Question
     ensures { λ r. ⌜ r ≡ askedOf marked ⌝ }
 {
     match marked {
-        Record::Numbers(kind, x, y) => asked_by(kind, number(x), number(y)),
+        Record::Numbers(fluid, kind, x, y) => asked_by(fluid, kind, number(x), number(y)),
         Record::NoReading => Question::Refused(Refusal::NoReading),
         Record::Unknown => Question::Refused(Refusal::UnknownMark),
         Record::Cut => Question::Refused(Refusal::CutShort),
@@ -48,21 +48,21 @@ pub fn density_at(fluid: Fluid, t: f64, p: f64, side: Side) -> Answer
     found_answer(plain_of(fluid, t, p, numbers.top_cells, side))
 }
 
-// The answer to what a record of a fluid asks.
-pub(crate) fn worked(fluid: Fluid, question: Question) -> Answer
-    ensures { λ r. ⌜ r ≡ workOf fluid question ⌝ }
+// The answer to what a record asks.
+pub(crate) fn worked(question: Question) -> Answer
+    ensures { λ r. ⌜ r ≡ workOf question ⌝ }
 {
     match question {
-        Question::State(t, rho) => answer_of(Property::Pressure, fluid, t, rho),
-        Question::Search(t, p, side) => density_at(fluid, t, p, side),
+        Question::State(fluid, t, rho) => answer_of(Property::Pressure, fluid, t, rho),
+        Question::Search(fluid, t, p, side) => density_at(fluid, t, p, side),
         Question::Refused(r) => Answer::Refused(r),
     }
 }
 
-// The answer to a record, which is of R-245ca by its mark: the pressure in Pa or the density in mol/dm³; or 15, 14, 1, 2, 3, 4, 5, then
+// The answer to a record, of the fluid of its mark: the pressure in Pa or the density in mol/dm³; or 15, 14, 1, 2, 3, 4, 5, then
 // 8, 9, 12. 8, 9 and 12 never occur (docs/NO-ANSWER.md).
 pub fn answer(s: &[u8]) -> Answer
     ensures { λ r. ⌜ r ≡ answerOf (now (s .entry)) ⌝ }
 {
-    worked(Fluid::R245ca, asked(read(s)))
+    worked(asked(read(s)))
 }

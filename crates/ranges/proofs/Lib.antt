@@ -5,5 +5,6 @@ pub mod Top
 pub mod Estimates
 pub mod Opened
 pub mod R245ca
+pub mod R245fa
 pub mod Passes
 pub mod Refused

@@ -11,7 +11,7 @@ use Rattle.records.specs.declared.Record.the-variants.{Numbers, NoReadin
 use Rattle.records.specs.Record.{recordOf}
 
 abbrev pub Whole : Record → Type 0
-Whole (Numbers kind x y) = Unit
+Whole (Numbers F kind x y) = Unit
 Whole NoReading = Unit
 Whole Unknown = Unit
 Whole Cut = ⊥

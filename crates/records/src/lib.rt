@@ -2,6 +2,7 @@
 mod reader;
 mod run;
 
+use fluids::Fluid;
 pub use reader::read;
 pub use run::record_at;
 pub use run::record_count;
@@ -22,7 +23,8 @@ pub enum Kind {
 
 // A record as it was read: its numbers are bits.
 pub enum Record {
-    Numbers(Kind, u64, u64),
+    // the fluid by the first letter of the mark
+    Numbers(Fluid, Kind, u64, u64),
     // N: its sixteen bytes are not looked at
     NoReading,
     // another mark

@@ -2,43 +2,53 @@
 use crate::Kind;
 use crate::RECORD_LENGTH;
 use crate::Record;
+use fluids::Fluid;
 use words::word;
 ghost use mathlib.Core.Path.{_≡_};
 ghost use lib.ListN.{length};
-ghost use Rattle.records.specs.Record.{numbersOf, letteredOf, recordOf};
+ghost use Rattle.records.specs.Record.{numbersOf, letteredOf, markedOf, recordOf};
 
 // The two numbers after the mark.
-fn numbers(kind: Kind, s: &[u8]) -> Record
+fn numbers(fluid: Fluid, kind: Kind, s: &[u8]) -> Record
     requires { ⌜ length (now s) ≡ 18 ⌝ }
-    ensures { λ r. ⌜ r ≡ numbersOf kind (now (s .entry)) ⌝ }
+    ensures { λ r. ⌜ r ≡ numbersOf fluid kind (now (s .entry)) ⌝ }
 {
-    Record::Numbers(kind, word(&s[2..]), word(&s[10..]))
+    Record::Numbers(fluid, kind, word(&s[2..]), word(&s[10..]))
 }
 
 // The mark's second letter says what they are.
-fn lettered(letter: u8, s: &[u8]) -> Record
+fn lettered(fluid: Fluid, letter: u8, s: &[u8]) -> Record
     requires { ⌜ length (now s) ≡ 18 ⌝ }
-    ensures { λ r. ⌜ r ≡ letteredOf letter (now (s .entry)) ⌝ }
+    ensures { λ r. ⌜ r ≡ letteredOf fluid letter (now (s .entry)) ⌝ }
 {
     match letter {
-        b'D' => numbers(Kind::Density, s),
-        b'B' => numbers(Kind::FromBelow, s),
-        b'A' => numbers(Kind::FromAbove, s),
-        b'P' => numbers(Kind::NoSide, s),
+        b'D' => numbers(fluid, Kind::Density, s),
+        b'B' => numbers(fluid, Kind::FromBelow, s),
+        b'A' => numbers(fluid, Kind::FromAbove, s),
+        b'P' => numbers(fluid, Kind::NoSide, s),
         b'N' => Record::NoReading,
         _ => Record::Unknown,
     }
 }
 
-// The record that the bytes are: the length first, then the first letter.
+// The mark's first letter says of which fluid they are.
+fn marked(s: &[u8]) -> Record
+    requires { ⌜ length (now s) ≡ 18 ⌝ }
+    ensures { λ r. ⌜ r ≡ markedOf (now (s .entry)) ⌝ }
+{
+    match s[0] {
+        b'T' => lettered(Fluid::R245ca, s[1], s),
+        b'F' => lettered(Fluid::R245fa, s[1], s),
+        _ => Record::Unknown,
+    }
+}
+
+// The record that the bytes are: the length first, then the mark.
 pub fn read(s: &[u8]) -> Record
     ensures { λ r. ⌜ r ≡ recordOf (now (s .entry)) ⌝ }
 {
     if s.len() != RECORD_LENGTH {
         return Record::Cut;
     }
-    if s[0] != b'T' {
-        return Record::Unknown;
-    }
-    lettered(s[1], s)
+    marked(s)
 }

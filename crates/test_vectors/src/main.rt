@@ -11,11 +11,11 @@ ghost use mathlib.Core.Path.{_≡_};
 ghost use Prim.Native.Nat.{_+_, _≤_};
 ghost use lib.ListN.{length};
 
-// Room for 2,730 questions.
-fn question_block() -> [u8; 65520]
-    ensures { λ r. ⌜ 65520 ≡ length r ⌝ }
+// Room for 5,460 questions.
+fn question_block() -> [u8; 131040]
+    ensures { λ r. ⌜ 131040 ≡ length r ⌝ }
 {
-    [0; 65520]
+    [0; 131040]
 }
 
 fn print(text: &[u8]) {

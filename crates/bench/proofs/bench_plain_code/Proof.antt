@@ -2,5 +2,8 @@
 use Rattle.bench.proofs.bench_plain_code.Statement.{statement}
 use Rattle.bench.proofs.bench_plain_code.Tie as tie
 
+returns : tie.Need-returns
+returns c = rw (c .found-code .ensures, c .before .plain .ensures, c .before .before .side-of .ensures)
+
 pub bench-plain-code-spec : {M : Type 1} → statement M
-bench-plain-code-spec = tie.close (tie.spec (λ c κs. tt) (λ c κs. tt) (λ c κs. tt) (λ c. cc))
+bench-plain-code-spec = tie.close (tie.spec (λ c κs. tt) (λ c κs. tt) (λ c κs. tt) returns)

@@ -2,5 +2,8 @@
 use Rattle.bench.proofs.bench_quick.Statement.{statement}
 use Rattle.bench.proofs.bench_quick.Tie as tie
 
+returns : tie.Need-returns
+returns c = rw (c .found-density .ensures, c .before .quick .ensures, c .before .before .side-of .ensures)
+
 pub bench-quick-spec : {M : Type 1} → statement M
-bench-quick-spec = tie.close (tie.spec (λ c κs. tt) (λ c κs. tt) (λ c κs. tt) (λ c. cc))
+bench-quick-spec = tie.close (tie.spec (λ c κs. tt) (λ c κs. tt) (λ c κs. tt) returns)

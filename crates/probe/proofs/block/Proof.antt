@@ -10,12 +10,12 @@ use Rattle.probe.proofs.block.Tie as tie
 array-share-prefix-out : tie.Need-array-share-prefix-out
 array-share-prefix-out c =
     let replied = c .before .put-replies .ensures in
-    omega (arith, replies-inside _ _ _ _ _ (replied .0) (replied .1))
+    omega (arith, replies-inside _ _ _ _ (replied .0) (replied .1))
 
 slice-aggregate-write-all : tie.Need-slice-aggregate-write-all
 slice-aggregate-write-all c =
     let replied = c .before .before .put-replies .ensures in
-    sym (length-take-le _ _ (replies-inside _ _ _ _ _ (replied .0) (replied .1)))
+    sym (length-take-le _ _ (replies-inside _ _ _ _ (replied .0) (replied .1)))
 
 returns : tie.Need-returns
 returns c = search needs

@@ -19,7 +19,7 @@ answer-over-requires c κs =
     let first = second .before .before in
     let long = first .before in
     let start = long .before .before .before .before in
-    next-serves _ (start .args .s .now) _ _ _ _ (first .word .ensures) (second .word2 .ensures) (start .pre) (long .if1 .left)
+    next-serves (start .args .s .now) _ _ _ _ (first .word .ensures) (second .word2 .ensures) (start .pre) (long .if1 .left)
 
 returns-2 : tie.Need-returns-2
 unfolding answerAt

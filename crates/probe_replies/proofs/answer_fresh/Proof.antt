@@ -1,4 +1,4 @@
--- `answer_fresh` meets its contract: any lists serve a NaN, and after the preparation they serve the call. Assumes nothing.
+-- `answer_fresh` meets its contract: any lists serve where no fluid is named, and after the preparation they serve the call. Assumes nothing.
 use Rattle.probe_replies.proofs.Served.{any-serve-none}
 use borrow.Author.Needs.{needs}
 use Rattle.probe_replies.proofs.answer_fresh.Statement.{statement}
@@ -7,7 +7,7 @@ use Rattle.probe_replies.proofs.answer_fresh.Tie as tie
 prepare-for-requires : tie.Need-prepare-for-requires
 prepare-for-requires c κs =
     let start = c .before .before .before .before in
-    any-serve-none _ _ _ (start .pre)
+    any-serve-none _ _ (start .pre)
 
 returns : tie.Need-returns
 returns c = search needs

@@ -14,7 +14,7 @@ returns-2 c =
     let second = prepared .before .before .before in
     let start = second .before .before .before .before .before .before .before in
     let (serves, call) = prepared .prepare-for .ensures in
-    (serves, words-serve _ (start .args .next .now) _ _ _ _ (second .before .before .word .ensures) (second .word2 .ensures) call)
+    (serves, words-serve (start .args .next .now) _ _ _ _ (second .before .before .word .ensures) (second .word2 .ensures) call)
 
 pub prepare-next-spec : {M : Type 1} → statement M
 prepare-next-spec =

@@ -12,10 +12,10 @@ use Rattle.isotherm.proofs.pairs.pairs_that_differ.Statement.{statement
 use Rattle.isotherm.proofs.pairs.pairs_that_differ.Tie as tie
 
 abbrev Inv-loop : tie.InvT-loop
-Inv-loop t c greatest least count₀ n₀ count n = (n ≤ 100) × (count ≤ 2 * n) × (count ≡ differing t c greatest least n)
+Inv-loop number t c greatest least count₀ n₀ count n = (n ≤ 100) × (count ≤ 2 * n) × (count ≡ differing number t c greatest least n)
 
 abbrev μ-loop : tie.MeasureT-loop
-μ-loop t c greatest least count₀ n₀ count n = 100 - n
+μ-loop number t c greatest least count₀ n₀ count n = 100 - n
 
 loop-holds : tie.Need-loop-holds Inv-loop μ-loop
 unfolding differing
@@ -36,14 +36,14 @@ loop-again c =
     let (below, few) = c .before .differs .ensures in
     let (above, other) = c .differs2 .ensures in
     let at = c .before .before .before .before in
-    (omega arith, omega arith, one-more _ _ _ _ _ _ _ _ (at .loop .inv .2) below above)
+    (omega arith, omega arith, one-more _ _ _ _ _ _ _ _ _ (at .loop .inv .2) below above)
 
 returns : tie.Need-returns Inv-loop μ-loop
 returns c =
     let at = c .before in
     let a = at .before .before .before .args in
     let end : at .loop .n ≡ 100 = omega arith in
-    at .loop .inv .2 ∙ ap (differing (a .t) (a .c) (a .greatest .now) (a .least .now)) end
+    at .loop .inv .2 ∙ ap (differing (a .number) (a .t) (a .c) (a .greatest .now) (a .least .now)) end
 
 pub pairs-that-differ-spec : {M : Type 1} → statement M
 pairs-that-differ-spec =

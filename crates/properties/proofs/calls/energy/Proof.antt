@@ -6,7 +6,7 @@ use Rattle.properties.proofs.calls.energy.Tie as tie
 
 returns : tie.Need-returns
 unfolding energyOf
-returns c = c .answer-of .ensures
+returns c = c .answer-numbered .ensures
 
 pub energy-spec : {M : Type 1} → statement M
 energy-spec = tie.close (tie.spec (λ c κs. search needs) returns)

@@ -6,7 +6,7 @@ use Rattle.properties.proofs.calls.enthalpy.Tie as tie
 
 returns : tie.Need-returns
 unfolding enthalpyOf
-returns c = c .answer-of .ensures
+returns c = c .answer-numbered .ensures
 
 pub enthalpy-spec : {M : Type 1} → statement M
 enthalpy-spec = tie.close (tie.spec (λ c κs. search needs) returns)

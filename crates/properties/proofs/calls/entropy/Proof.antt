@@ -6,7 +6,7 @@ use Rattle.properties.proofs.calls.entropy.Tie as tie
 
 returns : tie.Need-returns
 unfolding entropyOf
-returns c = c .answer-of .ensures
+returns c = c .answer-numbered .ensures
 
 pub entropy-spec : {M : Type 1} → statement M
 entropy-spec = tie.close (tie.spec (λ c κs. search needs) returns)

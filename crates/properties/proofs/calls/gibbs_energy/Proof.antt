@@ -6,7 +6,7 @@ use Rattle.properties.proofs.calls.gibbs_energy.Tie as tie
 
 returns : tie.Need-returns
 unfolding gibbsOf
-returns c = c .answer-of .ensures
+returns c = c .answer-numbered .ensures
 
 pub gibbs-energy-spec : {M : Type 1} → statement M
 gibbs-energy-spec = tie.close (tie.spec (λ c κs. search needs) returns)

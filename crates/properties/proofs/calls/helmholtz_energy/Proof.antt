@@ -6,7 +6,7 @@ use Rattle.properties.proofs.calls.helmholtz_energy.Tie as tie
 
 returns : tie.Need-returns
 unfolding helmholtzOf
-returns c = c .answer-of .ensures
+returns c = c .answer-numbered .ensures
 
 pub helmholtz-energy-spec : {M : Type 1} → statement M
 helmholtz-energy-spec = tie.close (tie.spec (λ c κs. search needs) returns)

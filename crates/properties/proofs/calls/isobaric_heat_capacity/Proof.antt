@@ -6,7 +6,7 @@ use Rattle.properties.proofs.calls.isobaric_heat_capacity.Tie as tie
 
 returns : tie.Need-returns
 unfolding isobaricOf
-returns c = c .answer-of .ensures
+returns c = c .answer-numbered .ensures
 
 pub isobaric-heat-capacity-spec : {M : Type 1} → statement M
 isobaric-heat-capacity-spec = tie.close (tie.spec (λ c κs. search needs) returns)

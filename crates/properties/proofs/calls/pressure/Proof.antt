@@ -6,7 +6,7 @@ use Rattle.properties.proofs.calls.pressure.Tie as tie
 
 returns : tie.Need-returns
 unfolding pressureOf
-returns c = c .answer-of .ensures
+returns c = c .answer-numbered .ensures
 
 pub pressure-spec : {M : Type 1} → statement M
 pressure-spec = tie.close (tie.spec (λ c κs. search needs) returns)

@@ -6,7 +6,7 @@ use Rattle.properties.proofs.calls.sound_speed.Tie as tie
 
 returns : tie.Need-returns
 unfolding soundSpeedOf
-returns c = c .answer-of .ensures
+returns c = c .answer-numbered .ensures
 
 pub sound-speed-spec : {M : Type 1} → statement M
 sound-speed-spec = tie.close (tie.spec (λ c κs. search needs) returns)

@@ -13,7 +13,6 @@ use Rattle.refusals.specs.Order.{permitted}
 use Rattle.refusals.proofs.Needed.{permitted-granted, permitted-denied}
 use Rattle.records.specs.declared.Record.{Record}
 use Rattle.questions.specs.declared.Question.{Question}
-use Rattle.fluids.specs.declared.Fluid.the-variants.{R245ca}
 use Rattle.records.specs.Record.{recordOf}
 use Rattle.questions.specs.Asked.{askedOf, questionOf, workOf}
 use Rattle.questions.specs.Call.{permitOf, callOf, outputOf, callCode, callOutput}
@@ -22,16 +21,16 @@ use Rattle.questions.proofs.call.answer_into.Statement.{statement}
 use Rattle.questions.proofs.call.answer_into.Tie as tie
 
 -- the call's outcome, once what the record asks and whether it is permitted are known
-module _ (s out : List ℕ) (question : Question) (p : Permit) (e : question ≡ questionOf s) (f : p ≡ permitOf R245ca question (length out)) where
-  call-is : permitted p (workOf R245ca question) ≡ callOf s (length out)
+module _ (s out : List ℕ) (question : Question) (p : Permit) (e : question ≡ questionOf s) (f : p ≡ permitOf question (length out)) where
+  call-is : permitted p (workOf question) ≡ callOf s (length out)
   unfolding callOf
   call-is = simp (f, e)
 
   call-denied : (r : Refusal) → p ≡ Denied r → callOf s (length out) ≡ Refused r
-  call-denied r g = sym call-is ∙ permitted-denied p (workOf R245ca question) r g
+  call-denied r g = sym call-is ∙ permitted-denied p (workOf question) r g
 
-  call-granted : p ≡ Granted → callOf s (length out) ≡ workOf R245ca question
-  call-granted g = sym call-is ∙ permitted-granted p (workOf R245ca question) g
+  call-granted : p ≡ Granted → callOf s (length out) ≡ workOf question
+  call-granted g = sym call-is ∙ permitted-granted p (workOf question) g
 
 read-asked : (s : List ℕ) {q : Question} {r : Record} → q ≡ askedOf r → r ≡ recordOf s → q ≡ questionOf s
 unfolding questionOf
