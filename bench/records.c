@@ -1,8 +1,10 @@
-/* The C call in C, in the package's form: a record read, its inputs tested, the pressure worked or the density searched
- * (searches.h). */
+/* The C calls in C, in the package's form: a record read, its inputs tested, the pressure worked or the density searched
+ * (searches.h); and a run of records, one after the other. */
 #include "same_form.c"
 
 uint32_t NAMED(answer)(const uint8_t *record, size_t record_len, uint8_t *out, size_t out_len);
+uint32_t NAMED(answers)(const uint8_t *records, size_t records_len, uint8_t *out, size_t out_len, uint32_t *codes,
+                        size_t codes_len);
 
 static double number_at(const uint8_t *bytes) {
     uint64_t bits = 0;
@@ -70,4 +72,19 @@ uint32_t NAMED(answer)(const uint8_t *record, size_t record_len, uint8_t *out, s
     if (code != 0)
         return code;
     return out_len < 8 ? 7 : work(number, kind, T, x, out);
+}
+
+/* A shorter piece at the end is a record too. */
+uint32_t NAMED(answers)(const uint8_t *records, size_t records_len, uint8_t *out, size_t out_len, uint32_t *codes,
+                        size_t codes_len) {
+    size_t count = records_len / 18 + (records_len % 18 > 0);
+    if (out_len / 8 < count || codes_len < count)
+        return 7;
+    if (count > 4096)
+        return 18;
+    for (size_t k = 0; k < count; k++) {
+        size_t left = records_len - 18 * k;
+        codes[k] = NAMED(answer)(records + 18 * k, left < 18 ? left : 18, out + 8 * k, 8);
+    }
+    return 0;
 }

@@ -1,5 +1,5 @@
-//! The C call in Rust, in the package's form: a record read, its inputs tested, the pressure worked or the density
-//! searched.
+//! The C calls in Rust, in the package's form: a record read, its inputs tested, the pressure worked or the density
+//! searched; and a run of records, one after the other.
 use super::{state_at, state_pressure};
 use crate::fluids::{fluid_numbered, Fluid, Range};
 use crate::searches::rust_plain;
@@ -63,6 +63,18 @@ fn answered(record: &[u8], room: usize) -> Result<f64, u32> {
     }
 }
 
+/// The code; and, where it is 0, the number's bits in the output.
+fn put_answer(record: &[u8], out: &mut [u8]) -> u32 {
+    match (answered(record, out.len()), out.first_chunk_mut()) {
+        (Ok(number), Some(first)) => {
+            *first = number.to_le_bytes();
+            0
+        }
+        (Ok(_), None) => 7,
+        (Err(code), _) => code,
+    }
+}
+
 /// # Safety
 ///
 /// `record` and `out` point to that many bytes.
@@ -73,12 +85,36 @@ pub unsafe extern "C" fn rust_answer(
     out: *mut u8,
     out_len: usize,
 ) -> u32 {
-    match answered(core::slice::from_raw_parts(record, record_len), out_len) {
-        Ok(number) => {
-            core::slice::from_raw_parts_mut(out, out_len)[..8]
-                .copy_from_slice(&number.to_le_bytes());
-            0
-        }
-        Err(code) => code,
+    put_answer(
+        core::slice::from_raw_parts(record, record_len),
+        core::slice::from_raw_parts_mut(out, out_len),
+    )
+}
+
+/// # Safety
+///
+/// `records` and `out` point to that many bytes, and `codes` to that many places.
+#[no_mangle]
+pub unsafe extern "C" fn rust_answers(
+    records: *const u8,
+    records_len: usize,
+    out: *mut u8,
+    out_len: usize,
+    codes: *mut u32,
+    codes_len: usize,
+) -> u32 {
+    let count = records_len.div_ceil(18);
+    if out_len / 8 < count || codes_len < count {
+        return 7;
     }
+    if count > 4096 {
+        return 18;
+    }
+    let records = core::slice::from_raw_parts(records, records_len).chunks(18);
+    let out = core::slice::from_raw_parts_mut(out, out_len).chunks_exact_mut(8);
+    let codes = core::slice::from_raw_parts_mut(codes, codes_len);
+    for ((record, out), code) in records.zip(out).zip(codes) {
+        *code = put_answer(record, out);
+    }
+    0
 }

@@ -5,8 +5,8 @@
  *     records_time file MARK N   writes N records of that mark, TD, FD, TN or FN
  */
 #define _DEFAULT_SOURCE
-#include "../tests/independent/fluid.h"
-#include "../tests/splitmix.h"
+#include "clock.h"
+#include "drawn_records.h"
 #include "worked.h"
 
 #include <stddef.h>
@@ -14,13 +14,12 @@
 #include <stdio.h>
 #include <stdlib.h>
 #include <string.h>
-#include <time.h>
 
 typedef uint32_t call(const uint8_t *record, size_t record_len, uint8_t *out, size_t out_len);
 
 call verriblom_answer, c_o2_answer, c_o3_answer, rust_answer;
 
-enum { RECORD = 18, MOST = 4096, PASSES = 15 };
+enum { PASSES = 15 };
 
 static const struct candidate {
     const char *name;
@@ -36,66 +35,17 @@ enum { CANDIDATES = sizeof candidates / sizeof *candidates };
 
 /* ---- records */
 
-static const char letters[FLUIDS] = { 'T', 'F' };
-
-static uint8_t records[MOST][RECORD];
-
-static void put(uint8_t *record, uint32_t number, char kind, double first, double second) {
-    record[0] = (uint8_t)letters[number];
-    record[1] = (uint8_t)kind;
-    memcpy(record + 2, &first, 8);
-    memcpy(record + 10, &second, 8);
-}
-
-static double uniform_in(uint64_t *state, struct range range) {
-    return splitmix_uniform(state, range.least, range.greatest);
-}
-
-/* D is a density, any other kind a pressure. */
-static void put_drawn(uint8_t *record, uint64_t *state, uint32_t number, char kind) {
-    const struct fluid *fluid = fluid_numbered(number);
-    double T = uniform_in(state, fluid->T);
-    put(record, number, kind, T, uniform_in(state, kind == 'D' ? fluid->rho : fluid->P));
-}
-
-/* How many records of each fluid are states, searches from below and searches from above. */
-static const struct mix {
-    const char *name;
-    unsigned states[FLUIDS], below[FLUIDS], above[FLUIDS];
-} mixes[] = {
-    { "TD", { 4096, 0 }, { 0, 0 }, { 0, 0 } },
-    { "FD", { 0, 4096 }, { 0, 0 }, { 0, 0 } },
-    { "TB", { 0, 0 }, { 128, 0 }, { 0, 0 } },
-    { "FB", { 0, 0 }, { 0, 128 }, { 0, 0 } },
-    { "TA", { 0, 0 }, { 0, 0 }, { 128, 0 } },
-    { "FA", { 0, 0 }, { 0, 0 }, { 0, 128 } },
-    { "98 TD, 1 TB, 1 TA", { 980, 0 }, { 10, 0 }, { 10, 0 } },
-    { "98 FD, 1 FB, 1 FA", { 0, 980 }, { 0, 10 }, { 0, 10 } },
-    { "TD and FD in turns", { 2048, 2048 }, { 0, 0 }, { 0, 0 } },
+static const struct mix mixes[] = {
+    { .name = "TD", .states = { 4096, 0 } },
+    { .name = "FD", .states = { 0, 4096 } },
+    { .name = "TB", .below = { 128, 0 } },
+    { .name = "FB", .below = { 0, 128 } },
+    { .name = "TA", .above = { 128, 0 } },
+    { .name = "FA", .above = { 0, 128 } },
+    { .name = "98 TD, 1 TB, 1 TA", .states = { 980, 0 }, .below = { 10, 0 }, .above = { 10, 0 } },
+    { .name = "98 FD, 1 FB, 1 FA", .states = { 0, 980 }, .below = { 0, 10 }, .above = { 0, 10 } },
+    { .name = "TD and FD in turns", .states = { 2048, 2048 } },
 };
-
-static unsigned most(const unsigned counts[FLUIDS]) {
-    unsigned greatest = 0;
-    for (int number = 0; number < FLUIDS; number++)
-        greatest = counts[number] > greatest ? counts[number] : greatest;
-    return greatest;
-}
-
-/* From record n on, the fluids in turns. */
-static unsigned draw_kind(unsigned n, uint64_t *state, char kind, const unsigned counts[FLUIDS]) {
-    for (unsigned k = 0; k < most(counts); k++)
-        for (uint32_t number = 0; number < FLUIDS; number++)
-            if (k < counts[number])
-                put_drawn(records[n++], state, number, kind);
-    return n;
-}
-
-static unsigned draw(const struct mix *mix) {
-    uint64_t state = 245;
-    unsigned n = draw_kind(0, &state, 'D', mix->states);
-    n = draw_kind(n, &state, 'B', mix->below);
-    return draw_kind(n, &state, 'A', mix->above);
-}
 
 /* ---- the check */
 
@@ -152,12 +102,6 @@ static double worked_in_all(unsigned n) {
 }
 
 /* ---- the clock */
-
-static double seconds(void) {
-    struct timespec now;
-    clock_gettime(CLOCK_MONOTONIC, &now);
-    return (double)now.tv_sec + 1e-9 * (double)now.tv_nsec;
-}
 
 static double pass(call *answer, unsigned n) {
     uint8_t out[8];

@@ -1,5 +1,5 @@
 /*
- * Verriblom: R-245ca and R-245fa, one record at a time.
+ * Verriblom: R-245ca and R-245fa, by records: one at a time, or a run of them at once.
  *
  * A record is 18 bytes: a two-letter mark and two binary64 numbers, the lowest byte first. The
  * mark's first letter says which fluid is asked, T for R-245ca and F for R-245fa; the second says
@@ -25,6 +25,8 @@ extern "C" {
 
 #define VERRIBLOM_RECORD_BYTES 18
 #define VERRIBLOM_NUMBER_BYTES 8
+/* the most records of one run */
+#define VERRIBLOM_MOST_RECORDS 4096
 
 /* R-245ca */
 #define VERRIBLOM_MARK_TEMPERATURE_DENSITY "TD"
@@ -41,14 +43,18 @@ extern "C" {
 #define VERRIBLOM_R245FA_MARK_NO_READING "FN"
 
 /*
- * What verriblom_answer returns. Where several refusals apply the first of 15, 14, 1, 2, 3, 4, 5, 7
- * counts. "Tested" says which records are tested for the code, "can occur" which ones can meet it,
- * by the mark's second letter; N has no reading, and both fluids are alike in this. 8, 9 and 12
- * are tested as the work goes on, and it is proved that no record meets them; nor is any number
- * returned that does not stand here (docs/NO-ANSWER.md).
+ * The code of a record: what verriblom_answer returns, and what verriblom_answers puts into its code
+ * list. Where several refusals apply the first of 15, 14, 1, 2, 3, 4, 5, 7 counts. "Tested" says
+ * which records are tested for the code, "can occur" which ones can meet it, by the mark's second
+ * letter; N has no reading, and both fluids are alike in this. 8, 9 and 12 are tested as the work
+ * goes on, and it is proved that no record meets them; nor is any number returned that does not
+ * stand here (docs/NO-ANSWER.md).
+ *
+ * verriblom_answers itself returns 0, 7 or 18, about the run as a whole.
  */
 enum verriblom_code {
-    /* the first eight bytes of the output hold the number. Can occur: D, B, A, P */
+    /* the first eight bytes of the output hold the number. Can occur: D, B, A, P. Of a run: each
+     * record has its code */
     VERRIBLOM_ANSWERED = 0,
     /* the record says "no reading". Tested: every record of 18 bytes. Can occur: N */
     VERRIBLOM_NO_READING = 1,
@@ -60,7 +66,9 @@ enum verriblom_code {
     VERRIBLOM_DENSITY_OUTSIDE = 4,
     /* the pressure is outside the fluid's range. Tested: B, A, P. Can occur: the same */
     VERRIBLOM_PRESSURE_OUTSIDE = 5,
-    /* the output has less than eight bytes. Tested: D, B, A, P. Can occur: the same */
+    /* the output has less than eight bytes. Tested: D, B, A, P. Can occur: the same, but for the
+     * records of a run, each of which has eight. Of a run: the output has less than eight bytes for
+     * each record, or the code list less than a place */
     VERRIBLOM_OUTPUT_TOO_SHORT = 7,
     /* no cell of the search has the pressure. Tested: B, A, P. Can occur: never */
     VERRIBLOM_NO_CELL = 8,
@@ -74,7 +82,9 @@ enum verriblom_code {
     VERRIBLOM_RECORD_CUT_SHORT = 15,
     /* the fluid's number is unknown. Tested: no record, as every known mark names a fluid. Can
      * occur: never */
-    VERRIBLOM_UNKNOWN_FLUID = 17
+    VERRIBLOM_UNKNOWN_FLUID = 17,
+    /* Of a run, after 7: it has more than 4,096 records. Tested: no single record. Can occur: never */
+    VERRIBLOM_TOO_MANY_RECORDS = 18
 };
 
 /*
@@ -87,6 +97,23 @@ enum verriblom_code {
  * is 0. Nothing is kept between calls, so that calls may run at the same time.
  */
 uint32_t verriblom_answer(const uint8_t *record, size_t record_len, uint8_t *out, size_t out_len);
+
+/*
+ * Answers a run of records, one after the other in records_len bytes; a piece of less than 18 bytes
+ * at the end counts as a record and gets 15. Returns 0, and for each record in turn, n of them, puts
+ * its code into codes, and the bits of its number into its own eight bytes of out, which stay as they
+ * were where the record is refused: what verriblom_answer does with that record and those eight
+ * bytes. No byte of out after 8 n and no place of codes after n ever changes, and no byte of the
+ * records does. No records at all are answered with 0.
+ *
+ * Returns 7 where out has less than 8 n bytes or codes less than n places, or else 18 where n is
+ * above 4,096; nothing is written then, to neither. A longer run is answered piece by piece.
+ *
+ * out_len counts bytes and codes_len places of codes. No length is too great to be told, whatever is
+ * claimed. The pointers are as above: they do not overlap, and are not null.
+ */
+uint32_t verriblom_answers(const uint8_t *records, size_t records_len, uint8_t *out, size_t out_len,
+                           uint32_t *codes, size_t codes_len);
 
 #ifdef __cplusplus
 }

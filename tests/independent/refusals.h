@@ -24,10 +24,11 @@ enum refusal {
     REFUSED_CUT_SHORT = 15,
     REFUSED_NOT_ENCLOSED = 16,
     REFUSED_UNKNOWN_FLUID = 17,
+    REFUSED_TOO_MANY_RECORDS = 18,
 };
 
 /* As many codes as there are, 0 among them. */
-enum { CODES = 18 };
+enum { CODES = 19 };
 
 struct outcome {
     uint64_t code;

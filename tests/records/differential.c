@@ -33,33 +33,14 @@ _Static_assert((int)VERRIBLOM_ANSWERED == (int)ANSWERED
                    && (int)VERRIBLOM_WORK_NOT_FINITE == (int)REFUSED_NOT_FINITE
                    && (int)VERRIBLOM_UNKNOWN_MARK == (int)REFUSED_UNKNOWN
                    && (int)VERRIBLOM_RECORD_CUT_SHORT == (int)REFUSED_CUT_SHORT
-                   && (int)VERRIBLOM_UNKNOWN_FLUID == (int)REFUSED_UNKNOWN_FLUID,
+                   && (int)VERRIBLOM_UNKNOWN_FLUID == (int)REFUSED_UNKNOWN_FLUID
+                   && (int)VERRIBLOM_TOO_MANY_RECORDS == (int)REFUSED_TOO_MANY_RECORDS,
                "a code of the header is another than 01's");
 
 /* Where record and output end. */
 struct memory {
     uint8_t *record_end, *out_end;
 };
-
-/* A record is of a fluid by its mark, or of none where it has no known mark. */
-enum { NO_FLUID = FLUIDS };
-
-static int fluid_of(const struct drawn *drawn)
-{
-    switch (record_mark(drawn->bytes, drawn->length)[0]) {
-    case 'T':
-        return 0;
-    case 'F':
-        return 1;
-    default:
-        return NO_FLUID;
-    }
-}
-
-static const char *fluid_name(int fluid)
-{
-    return fluid == NO_FLUID ? "no known mark" : fluid_numbered((uint64_t)fluid)->name;
-}
 
 /* Of each fluid and each code that is expected: how often it was met, and how often the call differed. */
 struct counts {
@@ -107,10 +88,10 @@ static void compare_one(struct generator *g, struct memory *memory, uint64_t one
 
     uint64_t code = expect(&drawn, wanted, room);
     uint32_t got = verriblom_answer(record, drawn.length, out, room);
-    counts->met[fluid_of(&drawn)][code]++;
+    counts->met[record_fluid(drawn.bytes, drawn.length)][code]++;
     if (got == code && memcmp(out, wanted, room) == 0 && memcmp(record, drawn.bytes, drawn.length) == 0)
         return;
-    counts->differed[fluid_of(&drawn)][code]++;
+    counts->differed[record_fluid(drawn.bytes, drawn.length)][code]++;
     if (counts->shown++ < DIFFERENCES_SHOWN)
         show(&drawn, room, got, code);
 }
@@ -119,7 +100,7 @@ static void show_codes(const struct counts *counts)
 {
     printf("codes met:");
     for (int fluid = 0; fluid <= NO_FLUID; fluid++) {
-        printf("%s %s:", fluid == 0 ? "" : ";", fluid_name(fluid));
+        printf("%s %s:", fluid == 0 ? "" : ";", record_fluid_name(fluid));
         for (int code = 0; code < CODES; code++)
             if (counts->met[fluid][code] != 0)
                 printf(" %d (%" PRIu64 ")", code, counts->met[fluid][code]);
@@ -135,7 +116,7 @@ static int count_codes(const struct counts *counts)
         for (int code = 0; code < CODES; code++) {
             uint64_t met = counts->met[fluid][code], differed = counts->differed[fluid][code];
             if (differed != 0)
-                printf("%s, code %d: %" PRIu64 " records differ\n", fluid_name(fluid), code, differed);
+                printf("%s, code %d: %" PRIu64 " records differ\n", record_fluid_name(fluid), code, differed);
             if (!is_owed(fluid, code) && differed == 0)
                 continue;
             if (met != 0 && differed == 0)

@@ -23,6 +23,23 @@ const char *record_mark(const uint8_t *record, size_t length)
     return "??";
 }
 
+int record_fluid(const uint8_t *record, size_t length)
+{
+    switch (record_mark(record, length)[0]) {
+    case 'T':
+        return 0;
+    case 'F':
+        return 1;
+    default:
+        return NO_FLUID;
+    }
+}
+
+const char *record_fluid_name(int fluid)
+{
+    return fluid == NO_FLUID ? "no known mark" : fluid_numbered((uint64_t)fluid)->name;
+}
+
 /* M-100: "Old records mean R-245ca; a record for the other fluid has F in place of T in its mark." */
 static const struct fluid *marked_fluid(const char *mark)
 {

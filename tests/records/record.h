@@ -2,6 +2,7 @@
 #ifndef RECORD_H
 #define RECORD_H
 
+#include "../independent/fluid.h"
 #include "../independent/refusals.h"
 
 #include <stddef.h>
@@ -14,5 +15,11 @@ struct outcome record_outcome(const uint8_t *record, size_t length, size_t room)
 
 /* The two letters that stand for the record on a line. */
 const char *record_mark(const uint8_t *record, size_t length);
+
+/* A record is of a fluid by its mark, or of none where it has no known mark. */
+enum { NO_FLUID = FLUIDS };
+
+int record_fluid(const uint8_t *record, size_t length);
+const char *record_fluid_name(int fluid);
 
 #endif

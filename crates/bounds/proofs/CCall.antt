@@ -1,12 +1,12 @@
 -- The C call answers every record that it permits: where the reading, its two numbers and the room in the output are granted, the
--- code is 0. So a record's code can only be 0, 1, 2, 3, 4, 5, 7, 14 or 15.
+-- code is 0. So a record's code can only be 0, 1, 2, 3, 4, 5, 7, 14 or 15, and with room in the output not 7.
 use mathlib.Core.Path.{_≡_, refl, ap, subst, sym}
 use mathlib.Core.Logic.{inl, inr}
 use mathlib.Core.List.{List, [], _∷_}
 use mathlib.Core.Bool.{true}
-use Prim.Native.Nat.{ℕ, _<_}
+use Prim.Native.Nat.{ℕ, _≤_, _<_}
 use native.Mathlib.Omega.{arith}
-use borrow.Author.Tests.{ltb-true}
+use borrow.Author.Tests.{le-leb, ltb-true}
 use lib.Dec.{T, leb, ltb}
 use lib.ListN.{length}
 use lib.Ieee.{Float}
@@ -40,7 +40,7 @@ use Rattle.inputs.proofs.Passed.{top-permitted}
 use Rattle.bounds.proofs.NeverTwelve.{pressure-answered}
 use Rattle.bounds.proofs.Searches.{every-question-answered}
 use Rattle.refusals.proofs.Apart.{granted≢denied}
-use Rattle.refusals.proofs.InOrder.{denied-code, by-permit}
+use Rattle.refusals.proofs.InOrder.{denied-code, one-of-more, by-permit}
 
 -- ---- permitted numbers are those that the calls permit
 search-permitted : (F : Fluid) (t P : Float) → askedPermit F t P ≡ Granted → searchPermit F t P (entryOf F .topCells) true ≡ Granted
@@ -60,42 +60,50 @@ work-answered (Search F t P side) ok =
 work-answered (Question.Refused r) ok = absurd (granted≢denied (sym ok))
 
 -- ---- the refusals that a record's permit can deny with
+-- its inputs, and the output's room after them
+abbrev inputCodes : List ℕ
+inputCodes = 1 ∷ 2 ∷ 3 ∷ 4 ∷ 5 ∷ 14 ∷ 15 ∷ []
+
 abbrev refusalCodes : List ℕ
 refusalCodes = 1 ∷ 2 ∷ 3 ∷ 4 ∷ 5 ∷ 7 ∷ 14 ∷ 15 ∷ []
 
-abbrev Listed : Permit → Type 0
-Listed p = (r : Refusal) → p ≡ Denied r → OneOf (codeOf r) refusalCodes
+abbrev Listed : List ℕ → Permit → Type 0
+Listed codes p = (r : Refusal) → p ≡ Denied r → OneOf (codeOf r) codes
 
-one-listed : (e : Refusal) → OneOf (codeOf e) refusalCodes → Listed (Denied e)
-one-listed e h r d = let same : e ≡ r = cc in subst (λ (x : Refusal). OneOf (codeOf x) refusalCodes) same h
+one-listed : (e : Refusal) → OneOf (codeOf e) inputCodes → Listed inputCodes (Denied e)
+one-listed e h r d = let same : e ≡ r = cc in subst (λ (x : Refusal). OneOf (codeOf x) inputCodes) same h
 
-state-listed : (F : Fluid) (t ρ : Float) → Listed (statePermit F t ρ)
+state-listed : (F : Fluid) (t ρ : Float) → Listed inputCodes (statePermit F t ρ)
 unfolding statePermit
-state-listed F t ρ = denied-code refusalCodes (stateTests F t ρ) tt
+state-listed F t ρ = denied-code inputCodes (stateTests F t ρ) tt
 
-asked-listed : (F : Fluid) (t P : Float) → Listed (askedPermit F t P)
+asked-listed : (F : Fluid) (t P : Float) → Listed inputCodes (askedPermit F t P)
 unfolding askedPermit
-asked-listed F t P = denied-code refusalCodes (askedTests F t P) tt
+asked-listed F t P = denied-code inputCodes (askedTests F t P) tt
 
-kind-listed : (F : Fluid) (kind : Kind) (t x : Float) → Listed (inputsOf (askedBy F kind t x))
+kind-listed : (F : Fluid) (kind : Kind) (t x : Float) → Listed inputCodes (inputsOf (askedBy F kind t x))
 kind-listed F Density t x = state-listed F t x
 kind-listed F FromBelow t x = asked-listed F t x
 kind-listed F FromAbove t x = asked-listed F t x
 kind-listed F NoSide t x = asked-listed F t x
 
-record-listed : (r : Record) → Listed (inputsOf (askedOf r))
+record-listed : (r : Record) → Listed inputCodes (inputsOf (askedOf r))
 record-listed (Numbers F kind x y) = kind-listed F kind _ _
 record-listed NoReading = one-listed Refusal.NoReading (inl refl)
-record-listed Unknown = one-listed UnknownMark (inr (inr (inr (inr (inr (inr (inl refl)))))))
-record-listed Cut = one-listed CutShort (inr (inr (inr (inr (inr (inr (inr (inl refl))))))))
+record-listed Unknown = one-listed UnknownMark (inr (inr (inr (inr (inr (inl refl))))))
+record-listed Cut = one-listed CutShort (inr (inr (inr (inr (inr (inr (inl refl)))))))
 
-question-listed : (s : List ℕ) → Listed (inputsOf (questionOf s))
+question-listed : (s : List ℕ) → Listed inputCodes (inputsOf (questionOf s))
 unfolding questionOf
 question-listed s = record-listed (recordOf s)
 
-room-listed : (p : Permit) (room : ℕ) → Listed p → Listed (testedOf p (leb 8 room) TooShort)
+room-listed : (p : Permit) (room : ℕ) → Listed inputCodes p → Listed refusalCodes (testedOf p (leb 8 room) TooShort)
 room-listed Granted room ok = denied-code refusalCodes ((leb 8 room, TooShort) ∷ []) tt
-room-listed (Denied r) room ok = ok
+room-listed (Denied e) room ok = λ r d. one-of-more inputCodes refusalCodes tt (codeOf r) (ok r d)
+
+with-room-listed : (p : Permit) (room : ℕ) → 8 ≤ room → Listed inputCodes p → Listed inputCodes (testedOf p (leb 8 room) TooShort)
+with-room-listed Granted room h ok r d = absurd (granted≢denied (simp (le-leb 8 room h) at d))
+with-room-listed (Denied e) room h ok r d = ok r d
 
 -- the room is asked for after the inputs
 inputs-granted : (p : Permit) (room : ℕ) → testedOf p (leb 8 room) TooShort ≡ Granted → p ≡ Granted
@@ -120,16 +128,20 @@ module _ (s out : List ℕ) where
   unfolding permit permitOf
   answered-there g = work-answered (questionOf s) (inputs-granted (inputsOf (questionOf s)) (length out) g)
 
-  permit-listed : Listed permit
+  permit-listed : Listed refusalCodes permit
   unfolding permit permitOf
   permit-listed = room-listed (inputsOf (questionOf s)) (length out) (question-listed s)
 
-  call-code : OneOf (callCode s out) (0 ∷ refusalCodes)
+  permit-with-room : 8 ≤ length out → Listed inputCodes permit
+  unfolding permit permitOf
+  permit-with-room h = with-room-listed (inputsOf (questionOf s)) (length out) h (question-listed s)
+
+  call-code : (codes : List ℕ) → Listed codes permit → OneOf (callCode s out) (0 ∷ codes)
   unfolding permit callCode callOf
-  call-code =
+  call-code codes listed =
       by-permit permit
       (λ g. inl (code-where-granted permit (workOf (questionOf s)) answered-there g))
-      (λ r d. rw d (inr (permit-listed r d)))
+      (λ r d. rw d (inr (listed r d)))
 
   granted-by-code : callCode s out ≡ 0 → permit ≡ Granted
   unfolding permit callCode callOf
@@ -139,5 +151,6 @@ pub record-calls : RecordCalls
 unfolding permit callCode callOf
 record-calls = record {
   answered = λ s out. (granted-by-code s out, code-where-granted (permit s out) (workOf (questionOf s)) (answered-there s out));
-  code = call-code;
+  code = λ s out. call-code s out refusalCodes (permit-listed s out);
+  code-with-room = λ s out h. call-code s out inputCodes (permit-with-room s out h);
 }

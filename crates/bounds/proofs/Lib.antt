@@ -8,3 +8,4 @@ pub mod NoAnswer
 pub mod Codes
 pub mod Estimated
 pub mod Numbered
+pub mod Runs

@@ -5,14 +5,14 @@ use Prim.Native.Nat.{ℕ, zero, suc, _+_, _*_, _≤_}
 use native.Mathlib.Omega.{arith}
 use native.Mathlib.Numerals.{add-one}
 use lib.ListN.{length, drop, length-append}
-use Rattle.records.specs.Run.{recordCount, recordAt}
+use Rattle.records.specs.Run.{recordCount, recordAt, gathered}
 use Rattle.lines.specs.Text.{Put}
 use Rattle.lines.specs.Lines.{lineOf, linesUpTo, linesOf, linesPut}
 use Rattle.lines.proofs.Lengths.{line-small}
 use Rattle.lines.proofs.Placing.{nothing, then, as-text, put-length}
 
 lines-small : (first : ℕ) (s : List ℕ) (k : ℕ) → length (linesUpTo first s k) ≤ 64 * k
-unfolding linesUpTo
+unfolding linesUpTo gathered
 lines-small first s zero = omega arith
 lines-small first s (suc k) =
     omega (
@@ -29,13 +29,13 @@ pub record Printed (first : ℕ) (s out₀ out : List ℕ) (k at : ℕ) : Type 0
   pub so-far : Put 0 (linesUpTo first s k) out₀ at out
 
 pub none-yet : (first : ℕ) (s out : List ℕ) → Printed first s out out 0 0
-unfolding linesUpTo
+unfolding linesUpTo gathered
 none-yet first s out = record { room = omega arith; same = refl; so-far = nothing 0 out }
 
 module _ (first : ℕ) (s out₀ out : List ℕ) (k at : ℕ) (h : Printed first s out₀ out k at) where
   pub one-more : (t next : List ℕ) (end : ℕ) → t ≡ recordAt s k → 64 * (k + 1) ≤ length out₀ →
       Put at (lineOf (first + k) t) out end next → Printed first s out₀ next (k + 1) end
-  unfolding linesUpTo
+  unfolding linesUpTo gathered
   one-more t next end e fits p =
       let small = lines-small first s k in
       let line = line-small (first + k) t in

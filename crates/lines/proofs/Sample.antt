@@ -19,7 +19,7 @@ use Rattle.inputs.specs.Inputs.{statePermit}
 use Rattle.lines.specs.Letters.{bytes}
 use Rattle.records.specs.Record.{numbersOf, markedOf, recordOf}
 use Rattle.questions.specs.Asked.{questionOf, answerOf}
-use Rattle.records.specs.Run.{recordAt}
+use Rattle.records.specs.Run.{recordAt, gathered}
 use Rattle.lines.specs.Text.{glyphOf, digitsOf, widthOf, decimalOf}
 use Rattle.lines.specs.Lines.{headerText, markText, dashes, answerText, lineOf, linesUpTo, linesOf, textOf}
 
@@ -44,7 +44,7 @@ pub sample-printed :
     textOf (first ++ (second ++ (third ++ fourth)))
     ≡ bytes "n mark code bits\n1 TD 0 0000000000000000\n2 TN 1 ----------------\n3 TD 2 ----------------\n4 -- 15 ----------------\n"
 unfolding
-    textOf headerText linesOf linesUpTo recordAt lineOf markText answerText dashes decimalOf widthOf digitsOf glyphOf
+    textOf headerText linesOf linesUpTo gathered recordAt lineOf markText answerText dashes decimalOf widthOf digitsOf glyphOf
     answerOf questionOf recordOf markedOf numbersOf bytesOf
     pressureOf statePermit workedDensity pressureValue stateOf keptOf sumsAt sumsTo sumsFirst rowFirst rowOf rowAt xAt bellAt
     powerAt _↑_ entryOf r245ca lnOf lnWork lnSteps mOf eOf expOf expWork expSteps squared within minus _▷_ _⊕_ _⊖_ _⊗_

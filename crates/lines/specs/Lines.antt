@@ -15,7 +15,7 @@ use Rattle.records.specs.declared.Record.the-variants.{Numbers, NoReading, Unkn
 use Rattle.lines.specs.Letters.{bytes}
 use Rattle.records.specs.Record.{recordOf}
 use Rattle.questions.specs.Asked.{answerOf}
-use Rattle.records.specs.Run.{recordCount, recordAt}
+use Rattle.records.specs.Run.{recordCount, gathered}
 use Rattle.lines.specs.Text.{digitsOf, decimalOf}
 
 unfoldable pub headerText : List ℕ
@@ -61,8 +61,7 @@ lineOf n s = ((spaced (decimalOf n) ++ spaced (markText s)) ++ answerText (answe
 
 -- the lines of the first k records of s, numbered from first on
 unfoldable pub linesUpTo : ℕ → List ℕ → ℕ → List ℕ
-linesUpTo first s zero = []
-linesUpTo first s (suc k) = linesUpTo first s k ++ lineOf (first + k) (recordAt s k)
+linesUpTo first s k = gathered (λ j t. lineOf (first + j) t) s k
 
 unfoldable pub linesOf : ℕ → List ℕ → List ℕ
 linesOf first s = linesUpTo first s (recordCount s)

@@ -18,11 +18,12 @@ use Rattle.search.proofs.Filling.{filled-rest}
 use Rattle.search.proofs.PreparationFails as any
 use Rattle.refusals.specs.declared.Permit.{Permit}
 use Rattle.refusals.specs.declared.Permit.the-variants.{Granted, Denied}
+use Rattle.refusals.specs.Order.{leftBy}
 use Rattle.search.specs.declared.Prepared.{Prepared}
 use Rattle.fluids.specs.declared.Fluid.{Fluid}
 use Rattle.inputs.specs.Inputs.{roomOf, preparePermit}
 use Rattle.steps.specs.Steps.{pressuresOf}
-use Rattle.preparation.specs.Prepare.{preparedBy, prepareOf, leftBy, greatestAfter, leastAfter}
+use Rattle.preparation.specs.Prepare.{preparedBy, prepareOf, greatestAfter, leastAfter}
 
 -- ---- the exact condition
 

@@ -10,6 +10,7 @@ use Rattle.search.specs.Plain.{atEnds}
 use Rattle.search.specs.Lists.{someNotFinite, greatestList, leastList}
 use Rattle.refusals.specs.declared.Permit.{Permit}
 use Rattle.refusals.specs.declared.Permit.the-variants.{Granted, Denied}
+use Rattle.refusals.specs.Order.{leftBy}
 use Rattle.search.specs.declared.Prepared.{Prepared}
 use Rattle.search.specs.declared.Prepared.the-variants.{Ready}
 use Rattle.fluids.specs.declared.Fluid.{Fluid}
@@ -26,11 +27,6 @@ preparedBy Granted false = Ready
 unfoldable pub prepareOf : Fluid → Float → ℕ → List Float → List Float → Prepared
 prepareOf F t c greatest least =
     preparedBy (preparePermit F t c (roomOf c (length greatest) (length least))) (someNotFinite (atEnds (pressuresOf F t)) (c + 1))
-
--- a list that the preparation leaves as it was where the inputs are refused
-abbrev pub leftBy : Permit → List Float → List Float → List Float
-leftBy Granted before after = after
-leftBy (Denied r) before after = before
 
 -- the list for G after the call
 unfoldable pub greatestAfter : Fluid → Float → ℕ → List Float → List Float → List Float

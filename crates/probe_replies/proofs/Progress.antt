@@ -9,7 +9,7 @@ use lib.ListN.{length, take, drop, length-append}
 use Rattle.refusals.specs.declared.Answer.{Answer}
 use Rattle.words.proofs.Tail.{tail-read}
 use Rattle.words.proofs.Written.{bytes-length}
-use Rattle.words.proofs.Blocks.{Blocks, Put, none-yet as none-put, whole-length, one-more as one-more-put}
+use Rattle.words.proofs.Blocks.{Blocks, Put, none-yet as none-put, whole-length, one-more-in-front}
 use Rattle.probe_replies.specs.Replies.{replyBytes, answerAt, repliesOf, replyCount, withReplies}
 
 reply-length : (a : Answer) → length (replyBytes a) ≡ 16
@@ -20,16 +20,16 @@ reply-length a = simp (length-append, bytes-length)
 replyAt : List ℕ → ℕ → List ℕ
 replyAt s k = replyBytes (answerAt (drop (24 * k) s))
 
-replies : (s : List ℕ) → Blocks 16 (replyAt s) (repliesOf s)
+replies : (s out : List ℕ) → Blocks 16 (length out) (replyAt s) (repliesOf s)
 unfolding repliesOf replyAt
-replies s = record { start = refl; next = λ k. refl; size = λ k. reply-length (answerAt (drop (24 * k) s)) }
+replies s out = record { start = refl; next = λ k. refl; size = λ k inside. reply-length (answerAt (drop (24 * k) s)) }
 
 -- the first k questions of s are answered in out, which was out₀
 abbrev pub Answered : List ℕ → List ℕ → List ℕ → ℕ → Type 0
 Answered s out₀ out k = Put 16 (repliesOf s) out₀ out k
 
 pub none-yet : (s out : List ℕ) → Answered s out out 0
-none-yet s out = none-put 16 (replyAt s) (repliesOf s) (replies s) out
+none-yet s out = none-put 16 (replyAt s) (repliesOf s) out (replies s out)
 
 count-fits : (s out : List ℕ) → 16 * replyCount s out ≤ length out
 unfolding replyCount
@@ -39,7 +39,7 @@ count-fits s out = omega arith
 pub replies-inside : (s out now : List ℕ) (r : ℕ) → r ≡ 16 * replyCount s out → now ≡ withReplies s out → r ≤ length now
 unfolding withReplies
 replies-inside s out now r p q =
-    rw (p, q, whole-length 16 (replyAt s) (repliesOf s) (replies s) out (replyCount s out) (count-fits s out)) (count-fits s out)
+    rw (p, q, whole-length 16 (replyAt s) (repliesOf s) out (replies s out) (replyCount s out) (count-fits s out)) (count-fits s out)
 
 pub one-more :
     (s out₀ out p : List ℕ) (k : ℕ) (a : Answer) → Answered s out₀ out k → 16 ≤ length out - 16 * k →
@@ -48,7 +48,7 @@ pub one-more :
     Answered s out₀ (putMid (16 * k) (length out - 16 * k) out p) (k + 1)
 unfolding replyAt
 one-more s out₀ out p k a h more q r =
-    one-more-put 16 (replyAt s) (repliesOf s) (replies s) out₀ out p k h more
+    one-more-in-front 16 (replyAt s) (repliesOf s) out₀ (replies s out₀) out k h p more
     (r
     ∙ ap (λ (x : Answer). replyBytes x ++ drop 16 (take (length out - 16 * k) (drop (16 * k) out))) (q ∙ ap answerAt (tail-read (24 * k) s)))
 

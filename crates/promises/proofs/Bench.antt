@@ -4,6 +4,7 @@ use mathlib.Core.List.{List}
 use lib.Ieee.{Float}
 use denote.Ref.{now}
 use Rattle.promises.specs.OneOutcome.{OneResult, OneOutcome}
+use Rattle.promises.proofs.BothLists.{both-lists}
 use Rattle.bench.proofs.bench_exp.Kinds as bench-exp-kinds
 use Rattle.bench.proofs.bench_exp.Reads as bench-exp-reads
 use Rattle.bench.proofs.bench_ln.Kinds as bench-ln-kinds
@@ -80,7 +81,4 @@ bench-quick-word-one κs a x y e f p q = p ∙ sym q
 -- both lists as well
 pub bench-prepare-one :
     OneOutcome _ bench-prepare-kinds.ps bench-prepare-kinds.r (List Float × List Float) (λ κs e. (now (e .1 .1 .1 .0), now (e .1 .1 .1 .1 .0))) bench-prepare-reads.Learnt
-bench-prepare-one κs a x y e f p q =
-    let greatest = p .1 ∙ sym (q .1) in
-    let least = p .2 ∙ sym (q .2) in
-    (p .0 ∙ sym (q .0), rw (greatest, least))
+bench-prepare-one κs a x y e f p q = both-lists p q

@@ -1,3 +1,4 @@
+pub mod BothLists
 pub mod Refusals
 pub mod Words
 pub mod Arithmetic
@@ -24,6 +25,7 @@ pub mod Outcomes
 pub mod Records
 pub mod Questions
 pub mod Lines
+pub mod Runs
 pub mod Verriblom
 pub mod Probe
 pub mod Bench

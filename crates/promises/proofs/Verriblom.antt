@@ -4,9 +4,16 @@ use mathlib.Core.List.{List}
 use Prim.Native.Nat.{ℕ}
 use denote.Ref.{now}
 use Rattle.promises.specs.OneOutcome.{OneOutcome}
+use Rattle.promises.proofs.BothLists.{both-lists}
 use Rattle.verriblom.proofs.verriblom_answer.Kinds as verriblom-answer-kinds
 use Rattle.verriblom.proofs.verriblom_answer.Reads as verriblom-answer-reads
+use Rattle.verriblom.proofs.verriblom_answers.Kinds as verriblom-answers-kinds
+use Rattle.verriblom.proofs.verriblom_answers.Reads as verriblom-answers-reads
 
 -- the bytes as well
 pub verriblom-answer-one : OneOutcome _ verriblom-answer-kinds.ps verriblom-answer-kinds.r (List ℕ) (λ κs e. now (e .1 .0)) verriblom-answer-reads.Learnt
 verriblom-answer-one κs a x y e f p q = (p .0 ∙ sym (q .0), p .1 ∙ sym (q .1))
+
+-- the output and the code list as well
+pub verriblom-answers-one : OneOutcome _ verriblom-answers-kinds.ps verriblom-answers-kinds.r (List ℕ × List ℕ) (λ κs e. (now (e .1 .0), now (e .1 .1 .0))) verriblom-answers-reads.Learnt
+verriblom-answers-one κs a x y e f p q = both-lists p q

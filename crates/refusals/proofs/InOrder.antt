@@ -80,12 +80,21 @@ abbrev pub isOneOf : ℕ → List ℕ → Bool
 isOneOf n [] = false
 isOneOf n (x ∷ xs) = eqb n x || isOneOf n xs
 
+abbrev pub allIn : List ℕ → List ℕ → Bool
+allIn [] ys = true
+allIn (x ∷ xs) ys = isOneOf x ys && allIn xs ys
+
 one-of : (n : ℕ) (xs : List ℕ) → T (isOneOf n xs) → OneOf n xs
 one-of n (x ∷ xs) t = go (eqb n x) refl (one-of n xs) t
   where
     go : (b : Bool) → eqb n x ≡ b → (T (isOneOf n xs) → OneOf n xs) → T (b || isOneOf n xs) → (n ≡ x) ⊎ OneOf n xs
     go true e rest t = inl (eqb-true n x e)
     go false e rest t = inr (rest t)
+
+-- a list's codes that all stand in another
+pub one-of-more : (xs ys : List ℕ) → T (allIn xs ys) → (n : ℕ) → OneOf n xs → OneOf n ys
+one-of-more (x ∷ xs) ys all n (inl e) = subst (λ (m : ℕ). OneOf m ys) (sym e) (one-of x ys (and-l (isOneOf x ys) (allIn xs ys) all))
+one-of-more (x ∷ xs) ys all n (inr later) = one-of-more xs ys (and-r (isOneOf x ys) (allIn xs ys) all) n later
 
 -- each test's refusal has one of the codes
 abbrev pub codesIn : List ℕ → List (Bool × Refusal) → Bool

@@ -58,11 +58,15 @@ returns-16 c = rw (c .enum-told16 .given .1) refl
 returns-17 : tie.Need-returns-17
 returns-17 c = rw (c .enum-told17 .given .1) refl
 
+returns-18 : tie.Need-returns-18
+returns-18 c = rw (c .enum-told18 .given .1) refl
+
 pub code-spec : {M : Type 1} → statement M
 code-spec =
     tie.close
     (tie.spec
     enum-told
+    (λ c. search needs)
     (λ c. search needs)
     (λ c. search needs)
     (λ c. search needs)
@@ -95,4 +99,5 @@ code-spec =
     returns-14
     returns-15
     returns-16
-    returns-17)
+    returns-17
+    returns-18)

@@ -8,7 +8,7 @@ enum-told : tie.Need-enum-told
 enum-told c = search needs
 
 returns : tie.Need-returns
-returns c = search needs
+returns c = sym (simp (c .before .enum-told .given .1, c .if1 .taken))
 
 returns-2 : tie.Need-returns-2
 returns-2 c = sym (simp (c .before .enum-told .given .1, c .if1 .left))
