@@ -8,12 +8,12 @@ ghost use mathlib.Core.Path.{_≡_};
 ghost use lib.ListN.{length};
 ghost use Rattle.records.specs.Record.{numbersOf, letteredOf, markedOf, recordOf};
 
-// The two numbers after the mark.
+// The two numbers after the mark, eight bytes each: where their length is in sight, no byte is tested for being there.
 fn numbers(fluid: Fluid, kind: Kind, s: &[u8]) -> Record
     requires { ⌜ length (now s) ≡ 18 ⌝ }
     ensures { λ r. ⌜ r ≡ numbersOf fluid kind (now (s .entry)) ⌝ }
 {
-    Record::Numbers(fluid, kind, word(&s[2..]), word(&s[10..]))
+    Record::Numbers(fluid, kind, word(&s[2..10]), word(&s[10..18]))
 }
 
 // The mark's second letter says what they are.
