@@ -1,9 +1,9 @@
 /* Asks Verriblom a run of records of both fluids by one C call and prints what it answers. */
+#include "numbers.h"
 #include "verriblom.h"
 
 #include <inttypes.h>
 #include <stdio.h>
-#include <string.h>
 
 struct question {
     const char *mark;
@@ -24,31 +24,6 @@ static const struct question questions[] = {
 /* The last record is cut short: it lacks the number at its end. */
 enum { QUESTIONS = sizeof questions / sizeof *questions, CUT = VERRIBLOM_NUMBER_BYTES };
 
-static void put_number(uint8_t *bytes, double number)
-{
-    uint64_t bits;
-    memcpy(&bits, &number, sizeof bits);
-    for (int k = 0; k < VERRIBLOM_NUMBER_BYTES; k++)
-        bytes[k] = (uint8_t)(bits >> 8 * k);
-}
-
-static double number_at(const uint8_t *bytes)
-{
-    uint64_t bits = 0;
-    for (int k = VERRIBLOM_NUMBER_BYTES; k-- > 0;)
-        bits = bits << 8 | bytes[k];
-    double number;
-    memcpy(&number, &bits, sizeof number);
-    return number;
-}
-
-static void put_record(uint8_t *record, const struct question *asked)
-{
-    memcpy(record, asked->mark, 2);
-    put_number(record + 2, asked->first);
-    put_number(record + 10, asked->second);
-}
-
 static void print_answer(const struct question *asked, uint32_t code, const uint8_t *out)
 {
     printf("%s %.10g %.10g: ", asked->mark, asked->first, asked->second);
@@ -63,7 +38,7 @@ int main(void)
     uint8_t records[QUESTIONS * VERRIBLOM_RECORD_BYTES], out[QUESTIONS * VERRIBLOM_NUMBER_BYTES];
     uint32_t codes[QUESTIONS];
     for (int k = 0; k < QUESTIONS; k++)
-        put_record(records + k * VERRIBLOM_RECORD_BYTES, &questions[k]);
+        put_record(records + k * VERRIBLOM_RECORD_BYTES, questions[k].mark, questions[k].first, questions[k].second);
     uint32_t code =
         verriblom_answers(records, sizeof records - CUT, out, sizeof out, codes, QUESTIONS);
     if (code != VERRIBLOM_ANSWERED) {

@@ -33,6 +33,15 @@ fn put_record(records: &mut Vec<u8>, (mark, first, second, _): Question) {
     records.extend(second.to_le_bytes());
 }
 
+/// Why a run is refused as a whole; nothing is written then.
+fn refusal(code: u32) -> &'static str {
+    match code {
+        7 => "the output or the code list is too short",
+        18 => "there are more than 4,096 records",
+        _ => "unknown",
+    }
+}
+
 /// The number in a record's eight bytes, where the code says that there is one.
 fn answered(bytes: [u8; 8], code: u32) -> Result<f64, u32> {
     if code == 0 {
@@ -78,7 +87,7 @@ fn main() {
         put_record(&mut records, asked);
     }
     let answers = answers(&records[..records.len() - CUT]).unwrap_or_else(|code| {
-        eprintln!("the run is refused, {code}");
+        eprintln!("the run is refused, {code}: {}", refusal(code));
         std::process::exit(1)
     });
     for (asked, answer) in QUESTIONS.into_iter().zip(answers) {

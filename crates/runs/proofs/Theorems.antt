@@ -206,3 +206,7 @@ module _ (s out codes : List ℕ) where
       by-permit (runPermit s out codes)
       (λ g. let answered = coded s out codes g in ap (drop (recordCount s)) (codes-are answered) ∙ codes-after (fits answered .1))
       (λ r d. ap (drop (recordCount s)) (left-codes r d))
+
+-- no records are answered with 0, and nothing is written
+pub no-records : (out codes : List ℕ) → (runCode [] out codes ≡ 0) × (runOutput [] out codes ≡ out) × (runCodes [] out codes ≡ codes)
+no-records out codes = (exactly-answered [] out codes .1 (omega arith, omega arith, omega arith), bytes-after [] out codes, places-after [] out codes)

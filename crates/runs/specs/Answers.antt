@@ -15,7 +15,7 @@ use Rattle.questions.specs.Call.{callCode, callOutput}
 
 -- ---- each record
 
--- the eight bytes of the output that are the record's own, number k
+-- the eight bytes of the output that the record number k has as its own
 unfoldable pub ownBytes : List ℕ → ℕ → List ℕ
 ownBytes out k = take 8 (drop (8 * k) out)
 

@@ -15,44 +15,8 @@ Inv-loop run out₀ codes₀ count k₀ out codes k = (count ≡ recordCount run
 abbrev μ-loop : tie.MeasureT-loop
 μ-loop run out₀ codes₀ count k₀ out codes k = count - k
 
-record-count-requires : tie.Need-record-count-requires Inv-loop μ-loop
-record-count-requires c κs = search needs
-
 loop-holds : tie.Need-loop-holds Inv-loop μ-loop
 loop-holds c = (search needs, omega arith, none-yet _ _ _)
-
-mul-from : tie.Need-mul-from Inv-loop μ-loop
-mul-from c = search needs
-
-add-to : tie.Need-add-to Inv-loop μ-loop
-add-to c = search needs
-
-record-at-requires : tie.Need-record-at-requires Inv-loop μ-loop
-record-at-requires c κs = search needs
-
-sub-answer-into : tie.Need-sub-answer-into Inv-loop μ-loop
-sub-answer-into c = search needs
-
-part-answer-into-start : tie.Need-part-answer-into-start Inv-loop μ-loop
-part-answer-into-start c = search needs
-
-part-answer-into-end : tie.Need-part-answer-into-end Inv-loop μ-loop
-part-answer-into-end c = search needs
-
-answer-into-requires : tie.Need-answer-into-requires Inv-loop μ-loop
-answer-into-requires c κs = search needs
-
-mul-codes : tie.Need-mul-codes Inv-loop μ-loop
-mul-codes c = search needs
-
-slice-write-codes : tie.Need-slice-write-codes Inv-loop μ-loop
-slice-write-codes c = search needs
-
-add-k : tie.Need-add-k Inv-loop μ-loop
-add-k c = search needs
-
-loop-less : tie.Need-loop-less Inv-loop μ-loop
-loop-less c = search needs
 
 loop-again : tie.Need-loop-again Inv-loop μ-loop
 loop-again c =
@@ -76,19 +40,19 @@ answer-each-spec =
     (tie.spec
     Inv-loop
     μ-loop
-    record-count-requires
+    (λ c κs. search needs)
     loop-holds
-    mul-from
-    add-to
-    record-at-requires
-    sub-answer-into
-    part-answer-into-start
-    part-answer-into-end
-    answer-into-requires
-    mul-codes
-    slice-write-codes
-    add-k
-    loop-less
+    (λ c. search needs)
+    (λ c. search needs)
+    (λ c κs. search needs)
+    (λ c. search needs)
+    (λ c. search needs)
+    (λ c. search needs)
+    (λ c κs. search needs)
+    (λ c. search needs)
+    (λ c. search needs)
+    (λ c. search needs)
+    (λ c. search needs)
     loop-again
     same-length
     same-length-2
