@@ -83,7 +83,7 @@ enum verriblom_code {
     /* the fluid's number is unknown. Tested: no record, as every known mark names a fluid. Can
      * occur: never */
     VERRIBLOM_UNKNOWN_FLUID = 17,
-    /* Of a run, after 7: it has more than 4,096 records. Tested: no single record. Can occur: never */
+    /* a run has more than 4,096 records. Tested: every run, after 7; no record. Can occur: such runs */
     VERRIBLOM_TOO_MANY_RECORDS = 18
 };
 
@@ -107,10 +107,11 @@ uint32_t verriblom_answer(const uint8_t *record, size_t record_len, uint8_t *out
  * records does. No records at all are answered with 0.
  *
  * Returns 7 where out has less than 8 n bytes or codes less than n places, or else 18 where n is
- * above 4,096; nothing is written then, to neither. A longer run is answered piece by piece.
+ * above 4,096; nothing is then written, neither to out nor to codes. A longer run is the caller's to
+ * cut, after whole records.
  *
- * out_len counts bytes and codes_len places of codes. No length is too great to be told, whatever is
- * claimed. The pointers are as above: they do not overlap, and are not null.
+ * out_len counts bytes and codes_len places of codes. Whatever lengths are claimed, nothing
+ * overflows. The pointers are as above: they do not overlap, and are not null.
  */
 uint32_t verriblom_answers(const uint8_t *records, size_t records_len, uint8_t *out, size_t out_len,
                            uint32_t *codes, size_t codes_len);
