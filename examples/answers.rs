@@ -90,7 +90,7 @@ fn main() {
         eprintln!("the run is refused, {code}: {}", refusal(code));
         std::process::exit(1)
     });
-    for (asked, answer) in QUESTIONS.into_iter().zip(answers) {
-        print_answer(asked, answer);
+    for (asked, answer) in QUESTIONS.iter().zip(answers) {
+        print_answer(*asked, answer);
     }
 }
