@@ -1,4 +1,5 @@
 pub mod Literals
+pub mod Reciprocals
 pub mod Ranges
 pub mod Turns
 pub mod Fields

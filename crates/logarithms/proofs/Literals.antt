@@ -6,10 +6,6 @@ use lib.Ieee.{binary64, ofBits, ofInt, round}
 use lib.Ieee.Scale.{finite}
 use Rattle.arithmetic.specs.Checked.{real, _e-_, two⁻, squash}
 
-pub lit-21 : ofBits binary64 0x4035000000000000 ≡ real 21
-unfolding ofBits ofInt round
-lit-21 = refl
-
 pub lit-two⁻60 : ofBits binary64 0x3c30000000000000 ≡ two⁻ 60
 unfolding ofBits round
 lit-two⁻60 = refl

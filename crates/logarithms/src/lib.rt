@@ -42,17 +42,31 @@ fn split(x: f64) -> Parts
     Parts { m, e }
 }
 
-// H = 1/21; for n = 19, 17, .. 1, H = 1/n + s·H.
+// 1/n for n = 1, 3, .. 21, in the sheet's order (docs/LOGARITHM.md): each with the 64 bits that the division gives.
+const RECIPROCALS: [f64; 11] = [
+    1.0, // 1/1 3ff0000000000000
+    0.3333333333333333, // 1/3 3fd5555555555555
+    0.2, // 1/5 3fc999999999999a
+    0.14285714285714285, // 1/7 3fc2492492492492
+    0.1111111111111111, // 1/9 3fbc71c71c71c71c
+    0.09090909090909091, // 1/11 3fb745d1745d1746
+    0.07692307692307693, // 1/13 3fb3b13b13b13b14
+    0.06666666666666667, // 1/15 3fb1111111111111
+    0.058823529411764705, // 1/17 3fae1e1e1e1e1e1e
+    0.05263157894736842, // 1/19 3faaf286bca1af28
+    0.047619047619047616, // 1/21 3fa8618618618618
+];
+
+// H = 1/21; for n = 19, 17, .. 1, H = 1/n + s·H. The sheet's place k has 1/n for n = 2·k + 1.
 fn steps(s: f64) -> f64
     ensures { λ r. ⌜ squashOf r ≡ lnSteps (squashOf s) 10 (real 1 ⊘ real 21) ⌝ }
 {
-    let mut h = 1.0 / 21.0;
-    let mut k: u32 = 10;
+    let reciprocals = RECIPROCALS;
+    let mut h = reciprocals[10];
+    let mut k: usize = 10;
     while 0 < k {
         k -= 1;
-        let n = 2 * k + 1;
-        let by = n as f64;
-        h = 1.0 / by + s * h;
+        h = reciprocals[k] + s * h;
     }
     h
 }
