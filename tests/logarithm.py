@@ -102,31 +102,31 @@ def of_page(page: str, constants: Sequence[Any]) -> Iterator[Check]:
     yield Check("the page has other digits of 1/3", f"1/3 is\n{Decimal(1 / 3)}, " in page)
 
 
-def ended_by_hand(bits: str, constants: Sequence[Any]) -> Tuple[str, str]:
-    """The code and the result's bits, or dashes, of a logarithm by hand."""
-    try:
-        return "0", TOOL.bits_of(by_hand(TOOL.number_in(f"0x{bits}"), constants)[-1].value)
-    except TOOL.Refused as refused:
-        return str(refused).rpartition(" ")[2], "-" * 16
-
-
 def is_split(steps: Sequence[Any]) -> bool:
     """Whether x = m·2ᵉ with 0.75 ≤ m < 1.5, of the first three steps."""
     x, m, e = (step.value for step in steps[:3])
     return 0.75 <= m < 1.5 and math.ldexp(m, int(e)) == x and e == int(e)
 
 
+def of_answer(bits: str, code: str, result: str, constants: Sequence[Any]) -> Iterator[Check]:
+    """A stored ln ends as by hand, and there begins with a split of x."""
+    complaint = f"the stored ln of {bits} is {code} {result}"
+    try:
+        steps = by_hand(TOOL.number_in(f"0x{bits}"), constants)
+    except TOOL.Refused as refused:
+        yield Check(complaint, str(refused).endswith(f" with {code}") and result == "-" * 16)
+        return
+    yield Check(complaint, (code, result) == ("0", TOOL.bits_of(steps[-1].value)))
+    yield Check(f"by hand {bits} is not m·2ᵉ with 0.75 ≤ m < 1.5", is_split(steps))
+
+
 def of_answers(answers: str, constants: Sequence[Any]) -> Iterator[Check]:
-    """Every stored ln ends as by hand, and begins with a split of x."""
+    """Every stored ln; each way to end is among them."""
     stored = STORED.findall(answers)
     codes = {code for _, code, _ in stored}
     yield Check(f"the stored answers of ln have the codes {codes}", codes == {"0", "2", "12"})
     for bits, code, result in stored:
-        hand = ended_by_hand(bits, constants)
-        yield Check(f"the stored ln of {bits} is {code} {result}", (code, result) == hand)
-        if hand[0] == "0":
-            split = is_split(by_hand(TOOL.number_in(f"0x{bits}"), constants))
-            yield Check(f"by hand {bits} is not m·2ᵉ with 0.75 ≤ m < 1.5", split)
+        yield from of_answer(bits, code, result, constants)
 
 
 def asked(*words: str) -> Tuple[int, str, str]:

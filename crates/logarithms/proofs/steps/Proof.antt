@@ -9,7 +9,7 @@ use Rattle.arithmetic.specs.Checked.{squash, real, _⊘_}
 use Rattle.logarithms.specs.Ln.{lnSteps}
 use Rattle.arithmetic.proofs.Operations.{squash-add, squash-mul}
 use Rattle.logarithms.proofs.Turns.{ln-turn}
-use Rattle.logarithms.proofs.Reciprocals.{quotients, IsSheet, sheet-at}
+use Rattle.logarithms.proofs.Reciprocals.{listed, IsSheet, sheet-at}
 use Rattle.logarithms.proofs.steps.Statement.{statement}
 use Rattle.logarithms.proofs.steps.Tie as tie
 
@@ -20,7 +20,7 @@ abbrev μ-loop : tie.MeasureT-loop
 μ-loop s reciprocals h₀ k₀ h k = k
 
 loop-holds : tie.Need-loop-holds Inv-loop μ-loop
-unfolding quotients _⊘_ ofBits ofInt round div
+unfolding listed _⊘_ ofBits ofInt round div
 loop-holds c = (refl, omega arith, ap (lnSteps (squash (c .args .s)) 10) (sheet-at _ refl 10 (omega arith)))
 
 loop-again : tie.Need-loop-again Inv-loop μ-loop
