@@ -1,10 +1,12 @@
 /* The C calls in C, in the package's form: a record read, its inputs tested, the pressure worked or the density searched
- * (searches.h); and a run of records, one after the other. */
+ * (searches.h); a run of records, one after the other; and a record written. */
 #include "same_form.c"
 
 uint32_t NAMED(answer)(const uint8_t *record, size_t record_len, uint8_t *out, size_t out_len);
 uint32_t NAMED(answers)(const uint8_t *records, size_t records_len, uint8_t *out, size_t out_len, uint32_t *codes,
                         size_t codes_len);
+uint32_t NAMED(write)(uint32_t kind, uint32_t fluid, uint64_t first, uint64_t second, uint8_t *buffer, size_t buffer_len,
+                      size_t place);
 
 static double number_at(const uint8_t *bytes) {
     uint64_t bits = 0;
@@ -15,11 +17,15 @@ static double number_at(const uint8_t *bytes) {
     return number;
 }
 
+static void put_word(uint8_t *out, uint64_t word) {
+    for (int k = 0; k < 8; k++)
+        out[k] = (uint8_t)(word >> 8 * k);
+}
+
 static uint32_t put_number(uint8_t *out, double number) {
     uint64_t bits;
     memcpy(&bits, &number, sizeof bits);
-    for (int k = 0; k < 8; k++)
-        out[k] = (uint8_t)(bits >> 8 * k);
+    put_word(out, bits);
     return 0;
 }
 
@@ -86,5 +92,30 @@ uint32_t NAMED(answers)(const uint8_t *records, size_t records_len, uint8_t *out
         size_t left = records_len - 18 * k;
         codes[k] = NAMED(answer)(records + 18 * k, left < 18 ? left : 18, out + 8 * k, 8);
     }
+    return 0;
+}
+
+static int known_kind(uint32_t letter) {
+    return letter == 'D' || letter == 'B' || letter == 'A' || letter == 'P' || letter == 'N';
+}
+
+/* A record without a reading has zeros for its numbers. */
+static void put_record(uint32_t kind, uint32_t fluid, uint64_t first, uint64_t second, uint8_t *out) {
+    out[0] = (uint8_t)letters[fluid];
+    out[1] = (uint8_t)kind;
+    put_word(out + 2, kind == 'N' ? 0 : first);
+    put_word(out + 10, kind == 'N' ? 0 : second);
+}
+
+/* place + 18 might pass 2^64. */
+uint32_t NAMED(write)(uint32_t kind, uint32_t fluid, uint64_t first, uint64_t second, uint8_t *buffer, size_t buffer_len,
+                      size_t place) {
+    if (!known_kind(kind))
+        return 14;
+    if (fluid >= FLUIDS)
+        return 17;
+    if (buffer_len < 18 || place > buffer_len - 18)
+        return 7;
+    put_record(kind, fluid, first, second, buffer + place);
     return 0;
 }

@@ -1,5 +1,5 @@
 //! The C calls in Rust, in the package's form: a record read, its inputs tested, the pressure worked or the density
-//! searched; and a run of records, one after the other.
+//! searched; a run of records, one after the other; and a record written.
 use super::{state_at, state_pressure};
 use crate::fluids::{fluid_numbered, Fluid, Range};
 use crate::searches::rust_plain;
@@ -117,4 +117,55 @@ pub unsafe extern "C" fn rust_answers(
         *code = put_answer(record, out);
     }
     0
+}
+
+fn kind_lettered(code: u32) -> Result<u8, u32> {
+    match u8::try_from(code) {
+        Ok(letter @ (b'D' | b'B' | b'A' | b'P' | b'N')) => Ok(letter),
+        _ => Err(14),
+    }
+}
+
+fn letter_numbered(number: u32) -> Result<u8, u32> {
+    match number {
+        0 => Ok(b'T'),
+        1 => Ok(b'F'),
+        _ => Err(17),
+    }
+}
+
+fn room_at(buffer: &mut [u8], place: usize) -> Result<&mut [u8; 18], u32> {
+    buffer.get_mut(place..).and_then(|rest| rest.first_chunk_mut()).ok_or(7)
+}
+
+/// A record without a reading has zeros for its numbers.
+fn put_record(letters: [u8; 2], words: [u64; 2], out: &mut [u8; 18]) {
+    let [first, second] = if letters[1] == b'N' { [0; 2] } else { words };
+    out[..2].copy_from_slice(&letters);
+    out[2..10].copy_from_slice(&first.to_le_bytes());
+    out[10..].copy_from_slice(&second.to_le_bytes());
+}
+
+fn written(kind: u32, fluid: u32, words: [u64; 2], buffer: &mut [u8], place: usize) -> Result<(), u32> {
+    let kind = kind_lettered(kind)?;
+    let fluid = letter_numbered(fluid)?;
+    put_record([fluid, kind], words, room_at(buffer, place)?);
+    Ok(())
+}
+
+/// # Safety
+///
+/// `buffer` points to that many bytes.
+#[no_mangle]
+pub unsafe extern "C" fn rust_write(
+    kind: u32,
+    fluid: u32,
+    first: u64,
+    second: u64,
+    buffer: *mut u8,
+    buffer_len: usize,
+    place: usize,
+) -> u32 {
+    let buffer = core::slice::from_raw_parts_mut(buffer, buffer_len);
+    written(kind, fluid, [first, second], buffer, place).err().unwrap_or(0)
 }

@@ -1,5 +1,6 @@
 /*
- * Verriblom: R-245ca and R-245fa, by records: one at a time, or a run of them at once.
+ * Verriblom: R-245ca and R-245fa, by records: answered one at a time, or a run of them at once; and
+ * written.
  *
  * A record is 18 bytes: a two-letter mark and two binary64 numbers, the lowest byte first. The
  * mark's first letter says which fluid is asked, T for R-245ca and F for R-245fa; the second says
@@ -42,6 +43,21 @@ extern "C" {
 #define VERRIBLOM_R245FA_MARK_NO_SIDE "FP"
 #define VERRIBLOM_R245FA_MARK_NO_READING "FN"
 
+/* The kind of a record that verriblom_write writes: the ASCII code of the mark's second letter. */
+enum verriblom_kind {
+    VERRIBLOM_KIND_TEMPERATURE_DENSITY = 68, /* D */
+    VERRIBLOM_KIND_FROM_BELOW = 66,          /* B */
+    VERRIBLOM_KIND_FROM_ABOVE = 65,          /* A */
+    VERRIBLOM_KIND_NO_SIDE = 80,             /* P */
+    VERRIBLOM_KIND_NO_READING = 78           /* N */
+};
+
+/* Its fluid, which the mark's first letter says. */
+enum verriblom_fluid {
+    VERRIBLOM_R245CA = 0, /* T */
+    VERRIBLOM_R245FA = 1  /* F */
+};
+
 /*
  * The code of a record: what verriblom_answer returns, and what verriblom_answers puts into its code
  * list. Where several refusals apply the first of 15, 14, 1, 2, 3, 4, 5, 7 counts. "Tested" says
@@ -50,11 +66,13 @@ extern "C" {
  * goes on, and it is proved that no record meets them; nor is any number returned that does not
  * stand here (docs/NO-ANSWER.md).
  *
- * verriblom_answers itself returns 0, 7 or 18, about the run as a whole.
+ * verriblom_answers itself returns 0, 7 or 18, about the run as a whole. verriblom_write returns only
+ * 0, 7, 14 or 17, about what it is to write; where several refusals apply the first of 14, 17, 7
+ * counts.
  */
 enum verriblom_code {
     /* the first eight bytes of the output hold the number. Can occur: D, B, A, P. Of a run: each
-     * record has its code */
+     * record has its code. Of writing: the buffer holds the record. Can occur: D, B, A, P, N */
     VERRIBLOM_ANSWERED = 0,
     /* the record says "no reading". Tested: every record of 18 bytes. Can occur: N */
     VERRIBLOM_NO_READING = 1,
@@ -68,7 +86,8 @@ enum verriblom_code {
     VERRIBLOM_PRESSURE_OUTSIDE = 5,
     /* the output has less than eight bytes. Tested: D, B, A, P. Can occur: the same, but for the
      * records of a run, each of which has eight. Of a run: the output has less than eight bytes for
-     * each record, or the code list less than a place */
+     * each record, or the code list less than a place. Of writing: the buffer has less than 18 bytes
+     * from the place on. Tested: D, B, A, P, N, after 14 and 17. Can occur: the same */
     VERRIBLOM_OUTPUT_TOO_SHORT = 7,
     /* no cell of the search has the pressure. Tested: B, A, P. Can occur: never */
     VERRIBLOM_NO_CELL = 8,
@@ -76,12 +95,15 @@ enum verriblom_code {
     VERRIBLOM_NOT_NEIGHBOURS = 9,
     /* a worked value is not finite. Tested: D, B, A, P. Can occur: never */
     VERRIBLOM_WORK_NOT_FINITE = 12,
-    /* the first two bytes are no mark. Tested: every record of 18 bytes. Can occur: any other mark */
+    /* the first two bytes are no mark. Tested: every record of 18 bytes. Can occur: any other mark.
+     * Of writing: the kind is none of the five. Tested: every kind, first of all. Can occur: any
+     * other kind */
     VERRIBLOM_UNKNOWN_MARK = 14,
     /* the record has not exactly 18 bytes. Tested: every record. Can occur: any other length */
     VERRIBLOM_RECORD_CUT_SHORT = 15,
     /* the fluid's number is unknown. Tested: no record, as every known mark names a fluid. Can
-     * occur: never */
+     * occur: never. Of writing: it is neither 0 nor 1. Tested: D, B, A, P, N, after 14. Can occur:
+     * the same */
     VERRIBLOM_UNKNOWN_FLUID = 17,
     /* a run has more than 4,096 records. Tested: every run, after 7; no record. Can occur: such runs */
     VERRIBLOM_TOO_MANY_RECORDS = 18
@@ -115,6 +137,23 @@ uint32_t verriblom_answer(const uint8_t *record, size_t record_len, uint8_t *out
  */
 uint32_t verriblom_answers(const uint8_t *records, size_t records_len, uint8_t *out, size_t out_len,
                            uint32_t *codes, size_t codes_len);
+
+/*
+ * Writes a record into 18 bytes of buffer, from byte number place on, the first being number 0: the
+ * mark of the kind and the fluid, then the 64 bits of the first number and those of the second, the
+ * lowest byte first. Returns 0. No other byte of buffer ever changes. The bits are written as they
+ * are: the numbers are tested for nothing, and a NaN keeps all its bits. A record that says "no
+ * reading" carries no numbers: it is written with sixteen zero bytes, whatever bits are handed over.
+ *
+ * Returns 14 where kind is none of enum verriblom_kind, or else 17 where fluid is none of enum
+ * verriblom_fluid, or else 7 where buffer has less than 18 bytes from place on; nothing is then
+ * written.
+ *
+ * buffer_len counts bytes. Whatever length and place are claimed, nothing overflows. buffer points to
+ * that many bytes and is not null, also where its length is 0.
+ */
+uint32_t verriblom_write(uint32_t kind, uint32_t fluid, uint64_t first, uint64_t second,
+                         uint8_t *buffer, size_t buffer_len, size_t place);
 
 #ifdef __cplusplus
 }

@@ -5,6 +5,7 @@ import doctest
 import itertools
 import math
 import pickle
+import random
 import struct
 import sys
 import unittest
@@ -52,12 +53,14 @@ class Answers(unittest.TestCase):
         self.assertEqual({mark.of(Fluid.R245FA).value for mark in Mark}, {b"FD", b"FB", b"FA", b"FP", b"FN"})
 
 
-class Refusals(unittest.TestCase):
+class Refusing(unittest.TestCase):
     def refused(self, refusal, call, *words, **named):
         with self.assertRaises(Refused) as caught:
             call(*words, **named)
         self.assertIs(caught.exception.refusal, refusal)
 
+
+class Refusals(Refusing):
     def test_inputs(self):
         for bad in (math.nan, math.inf, -math.inf):
             self.refused(Refusal.INPUT_NOT_FINITE, verriblom.pressure, bad, 1.0)
@@ -127,12 +130,14 @@ def records_of(run):
     return [run[start : start + 18] for start in range(0, len(run), 18)]
 
 
+FIRSTS = (180.0, 300.0, 445.0, 500.0, math.nan, -math.inf)
+SECONDS = (0.0, -0.0, 0.5, 11.3, 15.0, 50000.0, 5e7, 3e8, -1.0, math.nan, math.inf)
+
+
 def mixed():
     """Records of both fluids under all marks and some that are none, answered and refused."""
     marks = [mark.value for mark in Mark] + [b"td", b"GD", b"TX", bytes(2)]
-    firsts = (180.0, 300.0, 445.0, 500.0, math.nan, -math.inf)
-    seconds = (0.0, -0.0, 0.5, 11.3, 15.0, 50000.0, 5e7, 3e8, -1.0, math.nan, math.inf)
-    asked = itertools.product(marks, firsts, seconds)
+    asked = itertools.product(marks, FIRSTS, SECONDS)
     return [mark + struct.pack("<dd", first, second) for mark, first, second in asked]
 
 
@@ -160,6 +165,13 @@ class Runs(unittest.TestCase):
         refusals = {int(each) for each in met if isinstance(each, Refusal)}
         self.assertEqual(refusals, {1, 2, 3, 4, 5, 14, 15})
         self.assertGreater(len(met), len(refusals))
+
+    def test_written_records_are_answered_as_each_by_itself(self):
+        written = [verriblom.record(*said) for said in itertools.product(Mark, FIRSTS, SECONDS)]
+        self.assertEqual(records_of(b"".join(written)), written)
+        met = self.told_as_singly(b"".join(written))
+        self.assertEqual(len(met), len(written))
+        self.assertEqual({int(each) for each in met if isinstance(each, Refusal)}, {1, 2, 3, 4, 5})
 
     def test_a_run_of_one_record(self):
         for marked in mixed():
@@ -223,6 +235,241 @@ class Runs(unittest.TestCase):
         for other in (18, "TD", [bytes(18)], None):
             with self.assertRaises(TypeError):
                 verriblom.answers(other)
+
+
+# The marks once more, not taken from the module.
+LETTERS = {
+    Mark.TEMPERATURE_DENSITY: b"TD",
+    Mark.FROM_BELOW: b"TB",
+    Mark.FROM_ABOVE: b"TA",
+    Mark.NO_SIDE: b"TP",
+    Mark.NO_READING: b"TN",
+    Mark.R245FA_TEMPERATURE_DENSITY: b"FD",
+    Mark.R245FA_FROM_BELOW: b"FB",
+    Mark.R245FA_FROM_ABOVE: b"FA",
+    Mark.R245FA_NO_SIDE: b"FP",
+    Mark.R245FA_NO_READING: b"FN",
+}
+UNREAD = (Mark.NO_READING, Mark.R245FA_NO_READING)
+NUMBERED = [mark for mark in LETTERS if mark not in UNREAD]
+
+EDGES = (
+    # both zeros, subnormals and the least normal number, the greatest, infinities
+    0x0000000000000000, 0x8000000000000000, 0x0000000000000001, 0x800FFFFFFFFFFFFF, 0x0010000000000000,
+    0x7FEFFFFFFFFFFFFF, 0x7FF0000000000000, 0xFFF0000000000000,
+    # quiet NaNs, then signalling ones
+    0x7FF8000000000000, 0xFFF8000000000001, 0x7FFEDCBA98765432,
+    0x7FF0000000000001, 0xFFF7FFFFFFFFFFFF, 0x7FF123456789ABCD,
+    # 300.0, and eight bytes of which no two are alike
+    0x4072C00000000000, 0x0123456789ABCDEF, 0xFEDCBA9876543210,
+)
+
+
+def bits_of(number):
+    return struct.unpack("<Q", struct.pack("<d", number))[0]
+
+
+def number_of(bits):
+    return struct.unpack("<d", struct.pack("<Q", bits))[0]
+
+
+def pairs():
+    """Bits of two numbers: the edges, then any, then NaNs."""
+    drawn = random.Random(245)
+    nan = 0x7FF << 52
+    yield from itertools.product(EDGES, repeat=2)
+    yield from ((drawn.getrandbits(64), drawn.getrandbits(64)) for _ in range(500))
+    yield from ((drawn.getrandbits(64) | nan, drawn.getrandbits(64) | nan) for _ in range(500))
+
+
+class Names(unittest.TestCase):
+    def test_public_names(self):
+        given = {}
+        exec("from verriblom import *", given)
+        values = {"Fluid", "Mark", "Record", "Refusal", "Refused"}
+        calls = {"answer", "answers", "density", "pressure", "read", "record"}
+        self.assertEqual(given.keys() - {"__builtins__"}, values | calls)
+
+
+class Marks(unittest.TestCase):
+    def test_each_has_its_letters_fluid_and_kind(self):
+        self.assertEqual(list(Mark), list(LETTERS))
+        fluids = {b"T": Fluid.R245CA, b"F": Fluid.R245FA}
+        for mark, letters in LETTERS.items():
+            self.assertEqual(mark.value, letters)
+            self.assertIs(mark.fluid, fluids[letters[:1]])
+            self.assertEqual(mark.kind, ord(letters[1:]))
+            self.assertIs(mark.has_numbers, mark in NUMBERED)
+
+    def test_the_numbers_of_the_fluids(self):
+        self.assertEqual({fluid: fluid.number for fluid in Fluid}, {Fluid.R245CA: 0, Fluid.R245FA: 1})
+
+    def test_they_can_be_sent_to_another_process(self):
+        for each in (*Mark, *Fluid):
+            self.assertIs(pickle.loads(pickle.dumps(each)), each)
+        said = verriblom.Record(Mark.NO_SIDE, 300.0, 50000.0)
+        sent = pickle.loads(pickle.dumps(said))
+        self.assertEqual((type(sent), sent), (verriblom.Record, said))
+
+
+class Written(Refusing):
+    def test_bytes_of_a_record(self):
+        numbers = number_of(0x0102030405060708), number_of(0x1112131415161718)
+        wanted = b"FP" + bytes.fromhex("08 07 06 05 04 03 02 01 18 17 16 15 14 13 12 11")
+        self.assertEqual(verriblom.record(Mark.R245FA_NO_SIDE, *numbers), wanted)
+
+    def test_every_mark_with_any_numbers(self):
+        for mark, (first, second) in itertools.product(NUMBERED, pairs()):
+            written = verriblom.record(mark, number_of(first), number_of(second))
+            self.assertEqual(written, struct.pack("<2sQQ", LETTERS[mark], first, second))
+            self.assertIs(type(written), bytes)
+
+    def test_no_reading_has_zeros(self):
+        given = ((), (300.0,), (300.0, 1.0), (None, 1.0), (None, None), (math.nan, -math.inf))
+        for mark, numbers in itertools.product(UNREAD, given):
+            self.assertEqual(verriblom.record(mark, *numbers), LETTERS[mark] + bytes(16))
+
+    def test_other_marks_need_both_numbers(self):
+        for mark in NUMBERED:
+            for numbers in ({}, {"first": 300.0}, {"second": 1.0}, {"first": None, "second": None}):
+                with self.assertRaisesRegex(TypeError, f"{mark} needs both numbers"):
+                    verriblom.record(mark, **numbers)
+
+    def test_whole_numbers_and_names(self):
+        written = verriblom.record(Mark.FROM_ABOVE, 300.0, 50000.0)
+        self.assertEqual(verriblom.record(Mark.FROM_ABOVE, 300, 50000), written)
+        self.assertEqual(verriblom.record(second=50000.0, first=300.0, mark=Mark.FROM_ABOVE), written)
+
+    def test_another_is_written_before_the_first_is_taken(self):
+        # as by another thread, between the call and its bytes' taking
+        call, others = verriblom._write_call, []
+
+        def interrupted(*words):
+            code = call(*words)
+            with unittest.mock.patch.object(verriblom, "_write_call", call):
+                others.append(verriblom.record(Mark.R245FA_FROM_ABOVE, 400.0, 2.0))
+            return code
+
+        with unittest.mock.patch.object(verriblom, "_write_call", interrupted):
+            written = verriblom.record(Mark.FROM_BELOW, 300.0, 1.0)
+        self.assertEqual(written, struct.pack("<2sdd", b"TB", 300.0, 1.0))
+        self.assertEqual(others, [struct.pack("<2sdd", b"FA", 400.0, 2.0)])
+
+    def test_what_the_call_refuses_is_raised(self):
+        # none of it comes from a Mark and room for 18 bytes
+        for refusal, of, name, wrong in (
+            (Refusal.UNKNOWN_MARK, Mark.NO_SIDE, "_arguments", (ord("X"), 0)),
+            (Refusal.UNKNOWN_FLUID, Mark.NO_SIDE, "_arguments", (ord("P"), 2)),
+            (Refusal.OUTPUT_TOO_SHORT, verriblom, "_ROOM_BYTES", 17),
+            (Refusal.OUTPUT_TOO_SHORT, verriblom, "_PLACE", 1),
+        ):
+            with unittest.mock.patch.object(of, name, wrong):
+                self.refused(refusal, verriblom.record, Mark.NO_SIDE, 300.0, 1.0)
+
+
+class Read(Refusing):
+    def test_every_mark_with_any_numbers(self):
+        for mark, (first, second) in itertools.product(NUMBERED, pairs()):
+            marked = struct.pack("<2sQQ", LETTERS[mark], first, second)
+            said = verriblom.read(marked)
+            self.assertIs(said.mark, mark)
+            self.assertEqual((bits_of(said.first), bits_of(said.second)), (first, second))
+            self.assertEqual(verriblom.record(*said), marked)
+
+    def test_what_was_written(self):
+        for mark in NUMBERED:
+            said = verriblom.read(verriblom.record(mark, 300.0, -0.5))
+            self.assertEqual(said, (mark, 300.0, -0.5))
+            self.assertIs(type(said), verriblom.Record)
+
+    def test_no_reading_has_no_numbers(self):
+        sixteens = (bytes(16), b"\xff" * 16, struct.pack("<dd", 300.0, 1.0))
+        for mark, sixteen in itertools.product(UNREAD, sixteens):
+            said = verriblom.read(LETTERS[mark] + sixteen)
+            self.assertEqual(said, (mark, None, None))
+            self.assertIs(type(said), verriblom.Record)
+            self.assertEqual(verriblom.record(*said), LETTERS[mark] + bytes(16))
+
+    def test_other_lengths(self):
+        for letters, length in itertools.product((b"TD", b"FN", b"td"), (*range(18), 19, 36)):
+            self.refused(Refusal.RECORD_CUT_SHORT, verriblom.read, (letters + bytes(34))[:length])
+
+    def test_all_marks(self):
+        known = {}
+        for letters in map(bytes, itertools.product(range(256), repeat=2)):
+            try:
+                known[letters] = verriblom.read(letters + bytes(16)).mark
+            except Refused as refused:
+                self.assertIs(refused.refusal, Refusal.UNKNOWN_MARK)
+        self.assertEqual(known, {letters: mark for mark, letters in LETTERS.items()})
+
+    def test_anything_like_bytes(self):
+        marked = struct.pack("<2sdd", b"FA", 300.0, 50000.0)
+        gaps = memoryview(b"".join(bytes([byte, 0]) for byte in marked))[::2]
+        twos = memoryview(marked).cast("H")
+        for alike in (bytearray(marked), memoryview(marked), memoryview(bytearray(marked)), gaps, twos):
+            self.assertEqual(verriblom.read(alike), (Mark.R245FA_FROM_ABOVE, 300.0, 50000.0))
+        self.refused(Refusal.RECORD_CUT_SHORT, verriblom.read, gaps[:17])
+        self.refused(Refusal.RECORD_CUT_SHORT, verriblom.read, memoryview(bytes(36)).cast("H"))
+
+    def test_what_is_not_like_bytes(self):
+        for other in (18, "TD" * 9, [bytes(18)], None, list(bytes(18))):
+            with self.assertRaises(TypeError):
+                verriblom.read(other)
+
+
+# A buffer's bytes before the call, no two alike, and bits that leave none of them as it was.
+BEFORE = bytes(range(128, 192))
+FIRST, SECOND = 0x0102030405060708, 0x1112131415161718
+
+
+def called(kind, fluid, room, place):
+    """The call's code, and the buffer afterwards, of which so many bytes were lent."""
+    buffer = ctypes.create_string_buffer(BEFORE, len(BEFORE))
+    return verriblom._write_call(kind, fluid, FIRST, SECOND, buffer, room, place), buffer.raw
+
+
+class WritingCall(unittest.TestCase):
+    def test_the_bytes_around_the_record_stay(self):
+        for mark, place in itertools.product(Mark, range(len(BEFORE) - 17)):
+            numbers = bytes(16) if mark in UNREAD else struct.pack("<QQ", FIRST, SECOND)
+            wanted = BEFORE[:place] + LETTERS[mark] + numbers + BEFORE[place + 18 :]
+            self.assertEqual(called(mark.kind, mark.fluid.number, len(BEFORE), place), (0, wanted))
+
+    def written_or(self, refusal, fits, kind, fluid, room, place):
+        code, after = called(kind, fluid, room, place)
+        self.assertEqual(code, 0 if fits else refusal)
+        self.assertIs(after == BEFORE, not fits)
+
+    def test_kinds(self):
+        kinds = (*range(256), 256 + ord("D"), 2**16 + ord("B"), 2**31 + ord("N"), 2**32 - 1)
+        for kind, fluid in itertools.product(kinds, (0, 1)):
+            self.written_or(14, kind in (68, 66, 65, 80, 78), kind, fluid, len(BEFORE), 0)
+
+    def test_fluids(self):
+        fluids = (*range(256), 256, 257, 2**16 + 1, 2**31, 2**32 - 1)
+        for kind, fluid in itertools.product(b"DBAPN", fluids):
+            self.written_or(17, fluid in (0, 1), kind, fluid, len(BEFORE), 0)
+
+    def test_room(self):
+        # the last places are those from which 18 bytes would be carried over the end of all
+        places = (*range(len(BEFORE) + 2), 2**32, 2**63, *range(2**64 - 20, 2**64))
+        for kind, room, place in itertools.product(b"DN", range(len(BEFORE) + 1), places):
+            self.written_or(7, place + 18 <= room, kind, 1, room, place)
+
+    def test_which_refusal_comes_first(self):
+        for kind, fluid, room, wanted in (
+            ("X", 2, 17, 14),
+            ("X", 2, 18, 14),
+            ("X", 0, 17, 14),
+            ("X", 0, 18, 14),
+            ("D", 2, 17, 17),
+            ("N", 2, 17, 17),
+            ("D", 2, 18, 17),
+            ("D", 1, 17, 7),
+            ("N", 1, 17, 7),
+        ):
+            self.assertEqual(called(ord(kind), fluid, room, 0), (wanted, BEFORE))
 
 
 def load_tests(loader, tests, pattern):

@@ -21,6 +21,16 @@ time: each has its number, or in the number's place what it was refused with.
 1, NO_READING: the record says "no reading"
 15, RECORD_CUT_SHORT: the record has not exactly 18 bytes
 
+A record is written from its mark and its numbers, and read again as the same.
+
+>>> written = record(Mark.FROM_BELOW, 300.0, 50000.0)
+>>> written.hex(" ")
+'54 42 00 00 00 00 00 c0 72 40 00 00 00 00 00 6a e8 40'
+>>> read(written)
+Record(mark=<Mark.FROM_BELOW: b'TB'>, first=300.0, second=50000.0)
+>>> read(record(Mark.NO_READING))
+Record(mark=<Mark.NO_READING: b'TN'>, first=None, second=None)
+
 Units: K, mol/dm³, Pa. Each fluid has its own ranges, ends included
 (README.md).
 """
@@ -32,19 +42,41 @@ import enum
 import os
 import pathlib
 import struct
+import typing
 
-__all__ = ["Fluid", "Mark", "Refusal", "Refused", "answer", "answers", "density", "pressure", "record"]
+__all__ = [
+    "Fluid", "Mark", "Record", "Refusal", "Refused", "answer", "answers", "density", "pressure", "read", "record"
+]
 
 
 class Fluid(enum.Enum):
-    """The fluids by the first letter of their marks."""
+    """The fluids by the first letter of their marks, each with its number."""
 
-    R245CA = b"T"
-    R245FA = b"F"
+    def __new__(cls, letter: bytes, number: int) -> Fluid:
+        fluid = object.__new__(cls)
+        fluid._value_ = letter
+        fluid.number = number
+        return fluid
+
+    number: int
+
+    R245CA = b"T", 0
+    R245FA = b"F", 1
 
 
 class Mark(enum.Enum):
-    """The two letters at a record's front; the first five are R-245ca's."""
+    """The two letters at a record's front; the first five are R-245ca's.
+
+    Each has its `fluid`, its `kind`, which is the second letter's code, and
+    `has_numbers`, which is false of no reading.
+    """
+
+    def __init__(self, letters: bytes) -> None:
+        self.fluid = Fluid(letters[:1])
+        self.kind = letters[1]
+        self.has_numbers = letters[1:] != b"N"
+        # as the call that writes takes them; made once, as ctypes takes long to make them
+        self._arguments = ctypes.c_uint32(self.kind), ctypes.c_uint32(self.fluid.number)
 
     TEMPERATURE_DENSITY = b"TD"
     FROM_BELOW = b"TB"
@@ -87,8 +119,8 @@ class Refusal(enum.IntEnum):
     DENSITY_OUTSIDE = 4, "the density is outside the fluid's range"
     # tested: B, A, P; can occur: the same
     PRESSURE_OUTSIDE = 5, "the pressure is outside the fluid's range"
-    # tested: D, B, A, P, and every run; can occur: the same, but never here, where each record has eight bytes
-    # of the output, and each one of a run a place for its code
+    # tested: D, B, A, P, every run, and every record to write; can occur: the same, but never here, where each
+    # record has eight bytes of the output, each one of a run a place for its code, and one to write 18 bytes
     OUTPUT_TOO_SHORT = 7, "the output, or a run's code list, is too short"
     # tested: B, A, P; can occur: never
     NO_CELL = 8, "no cell of the search has the pressure"
@@ -96,11 +128,13 @@ class Refusal(enum.IntEnum):
     NOT_NEIGHBOURS = 9, "23 halvings did not end at neighbours"
     # tested: D, B, A, P; can occur: never
     WORK_NOT_FINITE = 12, "a worked value is not finite"
-    # tested: every record of 18 bytes; can occur: any other mark
+    # tested: every record of 18 bytes, and every one to write; can occur: any other mark, but never in writing
+    # here, where a Mark has a known kind
     UNKNOWN_MARK = 14, "the first two bytes are no mark"
     # tested: every record; can occur: any other length
     RECORD_CUT_SHORT = 15, "the record has not exactly 18 bytes"
-    # tested: no record, as every known mark names a fluid; can occur: never
+    # tested: every record to write; no other, as every known mark names a fluid; can occur: in writing, but
+    # never here, where a Mark has a known fluid
     UNKNOWN_FLUID = 17, "the fluid's number is unknown"
     # tested: no record; every run, after 7; can occur: a run of more than 4,096 records, but never here, where
     # it is answered piece by piece
@@ -118,6 +152,14 @@ class Refused(Exception):
 
     def __str__(self) -> str:
         return f"{int(self.refusal)}, {self.refusal.name}: {self.refusal.meaning}"
+
+
+class Record(typing.NamedTuple):
+    """What a record says; there are no numbers where it says "no reading"."""
+
+    mark: Mark
+    first: float | None
+    second: float | None
 
 
 def _loaded() -> ctypes.CDLL:
@@ -141,16 +183,42 @@ _MOST_RECORDS = 4096
 _Numbers = ctypes.c_char * (_NUMBER_BYTES * _MOST_RECORDS)
 _Codes = ctypes.c_uint32 * _MOST_RECORDS
 
+# Room for a record that is written, its length, and the record's place there.
+_Room = ctypes.c_char * _RECORD_BYTES
+_ROOM_BYTES = ctypes.c_size_t(_RECORD_BYTES)
+_PLACE = ctypes.c_size_t(0)
+
+_MARKS = {mark.value: mark for mark in Mark}
+_NUMBERS = struct.Struct("<dd")
+_BITS = struct.Struct("<QQ")
+
 _library = _loaded()
 _bytes = (ctypes.c_char_p, ctypes.c_size_t)
 _places = (ctypes.POINTER(ctypes.c_uint32), ctypes.c_size_t)
 _call = _declared("verriblom_answer", *_bytes, *_bytes)
 _run_call = _declared("verriblom_answers", *_bytes, *_bytes, *_places)
+_kind_and_fluid = (ctypes.c_uint32, ctypes.c_uint32)
+_both_bits = (ctypes.c_uint64, ctypes.c_uint64)
+_write_call = _declared("verriblom_write", *_kind_and_fluid, *_both_bits, *_bytes, ctypes.c_size_t)
 
 
-def record(mark: Mark, first: float, second: float) -> bytes:
-    """The record of a mark and two numbers."""
-    return mark.value + struct.pack("<dd", first, second)
+def record(mark: Mark, first: float | None = None, second: float | None = None) -> bytes:
+    """The record of a mark and two numbers, bit for bit.
+
+    Those of no reading carry none: the numbers may be left out, and sixteen zero
+    bytes stand in their place whatever is given.
+    """
+    first_bits = second_bits = 0
+    if mark.has_numbers:
+        if first is None or second is None:
+            raise TypeError(f"{mark} needs both numbers")
+        first_bits, second_bits = _BITS.unpack(_NUMBERS.pack(first, second))
+    kind, fluid = mark._arguments
+    room = _Room()
+    code = _write_call(kind, fluid, first_bits, second_bits, room, _ROOM_BYTES, _PLACE)
+    if code != 0:
+        raise Refused(Refusal(code))
+    return room.raw
 
 
 def answer(marked: bytes) -> float:
@@ -166,6 +234,23 @@ def _as_bytes(records: bytes) -> memoryview:
     """The bytes where they stand; only those with gaps between them are copied."""
     view = memoryview(records)
     return view.cast("B") if view.c_contiguous else memoryview(view.tobytes())
+
+
+def read(marked: bytes) -> Record:
+    """What a record says, the opposite of `record`; raises Refused for another length or mark.
+
+    The sixteen bytes of no reading are not looked at. Reading is Python's own work
+    here, tested and not proved; the bytes that `record` gives are the proved call's.
+    """
+    whole = _as_bytes(marked)
+    if len(whole) != _RECORD_BYTES:
+        raise Refused(Refusal.RECORD_CUT_SHORT)
+    mark = _MARKS.get(bytes(whole[:2]))
+    if mark is None:
+        raise Refused(Refusal.UNKNOWN_MARK)
+    if not mark.has_numbers:
+        return Record(mark, None, None)
+    return Record(mark, *_NUMBERS.unpack_from(whole, 2))
 
 
 def _results(numbers: tuple[float, ...], codes: tuple[int, ...]) -> list[float | Refused]:

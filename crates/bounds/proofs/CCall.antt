@@ -23,9 +23,9 @@ use Rattle.fluids.specs.declared.Fluid.{Fluid}
 use Rattle.fluids.specs.Entries.{entryOf}
 use Rattle.fluids.proofs.Sound.{every}
 use Rattle.records.specs.declared.Kind.{Kind}
-use Rattle.records.specs.declared.Kind.the-variants.{Density, FromBelow, FromAbove, NoSide}
+use Rattle.records.specs.declared.Kind.the-variants.{Density, FromBelow, FromAbove, NoSide, NoReading}
 use Rattle.records.specs.declared.Record.{Record}
-use Rattle.records.specs.declared.Record.the-variants.{Numbers, NoReading, Unknown, Cut}
+use Rattle.records.specs.declared.Record.the-variants.{Marked, Unknown, Cut}
 use Rattle.questions.specs.declared.Question.{Question}
 use Rattle.questions.specs.declared.Question.the-variants.{State, Search}
 use Rattle.outcomes.specs.Codes.{foundAnswerOf}
@@ -86,10 +86,10 @@ kind-listed F Density t x = state-listed F t x
 kind-listed F FromBelow t x = asked-listed F t x
 kind-listed F FromAbove t x = asked-listed F t x
 kind-listed F NoSide t x = asked-listed F t x
+kind-listed F NoReading t x = one-listed Refusal.NoReading (inl refl)
 
 record-listed : (r : Record) → Listed inputCodes (inputsOf (askedOf r))
-record-listed (Numbers F kind x y) = kind-listed F kind _ _
-record-listed NoReading = one-listed Refusal.NoReading (inl refl)
+record-listed (Marked kind F x y) = kind-listed F kind _ _
 record-listed Unknown = one-listed UnknownMark (inr (inr (inr (inr (inr (inl refl))))))
 record-listed Cut = one-listed CutShort (inr (inr (inr (inr (inr (inr (inl refl)))))))
 

@@ -9,7 +9,7 @@ use Rattle.refusals.specs.declared.Answer.{Answer}
 use Rattle.refusals.specs.declared.Answer.the-variants.{Number, Refused}
 use Rattle.refusals.specs.Code.{answerCodeOf}
 use Rattle.records.specs.declared.Record.{Record}
-use Rattle.records.specs.declared.Record.the-variants.{Numbers, NoReading, Unknown, Cut}
+use Rattle.records.specs.declared.Record.the-variants.{Marked, Unknown, Cut}
 use Rattle.records.specs.Record.{recordOf}
 use Rattle.questions.specs.Asked.{answerOf}
 use Rattle.lines.specs.Text.{decimalOf}
@@ -17,8 +17,7 @@ use Rattle.lines.specs.Lines.{markOf, markText, dashes, bitsText, spaced
 use Rattle.lines.proofs.Digits.{digits-length, decimal-small}
 
 letters-length : (r : Record) (s : List ℕ) → length (markOf r s) ≡ 2
-letters-length (Numbers F kind x y) s = refl
-letters-length NoReading s = refl
+letters-length (Marked kind F x y) s = refl
 letters-length Unknown s = refl
 letters-length Cut s = refl
 

@@ -6,32 +6,20 @@ use native.Mathlib.Omega.{arith}
 use native.Mathlib.Numerals.{add-one}
 use lib.ListN.{length, take, drop, set, length-append, length-drop, take-append-drop}
 use lib.Seq.{take-at, drop-at, drop-drop, length-take-le, set-split}
-use Rattle.lines.specs.Text.{placed, Put}
+use Rattle.words.specs.Word.{placed}
+use Rattle.words.proofs.Placed.{placed-length, placed-upto, placed-after}
+use Rattle.lines.specs.Text.{Put}
 
 module _ (at : ℕ) (t s : List ℕ) (fits : at + length t ≤ length s) where
-  -- up to the text's end
-  upto-length : length (take at s ++ t) ≡ at + length t
-  upto-length = length-append (take at s) t ∙ ap (λ (k : ℕ). k + length t) (length-take-le at s (omega arith))
-
-  as-two : placed at t s ≡ (take at s ++ t) ++ drop (at + length t) s
-  as-two = sym (append-assoc (take at s) t (drop (at + length t) s))
-
-  pub length-placed : length (placed at t s) ≡ length s
-  length-placed =
-      ap length as-two ∙ length-append (take at s ++ t) (drop (at + length t) s)
-      ∙ simp (upto-length, length-drop) (omega arith)
-
   placed-more : (u : List ℕ) → at + length t + length u ≤ length s → placed (at + length t) u (placed at t s) ≡ placed at (t ++ u) s
   placed-more u h =
-      let front : take (at + length t) (placed at t s) ≡ take at s ++ t =
-      ap (take (at + length t)) as-two ∙ take-at (take at s ++ t) (drop (at + length t) s) (at + length t) upto-length in
       let total : at + length t + length u ≡ at + length (t ++ u) = rw (length-append t u) (omega arith) in
       let back : drop (at + length t + length u) (placed at t s) ≡ drop (at + length (t ++ u)) s =
       sym (drop-drop (length u) (at + length t) (placed at t s))
-      ∙ ap (drop (length u)) (ap (drop (at + length t)) as-two ∙ drop-at (take at s ++ t) (drop (at + length t) s) (at + length t) upto-length)
+      ∙ ap (drop (length u)) (placed-after at t s fits)
       ∙ drop-drop (length u) (at + length t) s
       ∙ ap (λ (k : ℕ). drop k s) total in
-      simp (front, back, append-assoc)
+      simp (placed-upto at t s fits, back, append-assoc)
 
 -- nothing was put
 pub nothing : (at : ℕ) (s : List ℕ) → Put at [] s at s
@@ -56,7 +44,7 @@ then {at} {m} {r} {t} {u} {s} {s₁} {s₂} p q fits =
 
 -- the list stays as long as it was
 pub put-length : {at r : ℕ} {t s now : List ℕ} → Put at t s r now → at + length t ≤ length s → length now ≡ length s
-put-length {at} {r} {t} {s} p h = ap length (p .whole) ∙ length-placed at t s h
+put-length {at} {r} {t} {s} p h = ap length (p .whole) ∙ placed-length at t s h
 
 -- a text by another name
 pub as-text : {at r : ℕ} {t u s now : List ℕ} → t ≡ u → Put at t s r now → Put at u s r now

@@ -9,7 +9,7 @@ use Rattle.exponentials.specs.Exp.{expSteps, squared, expWork, expOf}
 use Rattle.logarithms.specs.Ln.{mOf, eOf, lnSteps, lnWork, lnOf}
 use Rattle.elementary.specs.Power.{_↑_}
 use Rattle.fluids.specs.R245ca.{r245ca}
-use Rattle.fluids.specs.Entries.{entryOf}
+use Rattle.fluids.specs.Entries.{entryOf, letterOf, fluidLettered}
 use Rattle.kept.specs.Kept.{powerAt, bellAt, keptOf}
 use Rattle.sums.specs.Rows.{xAt, rowAt}
 use Rattle.sums.specs.Sums.{rowFirst, sumsFirst, rowOf, sumsTo, sumsAt}
@@ -17,7 +17,7 @@ use Rattle.equation.specs.State.{stateOf, pressureValue}
 use Rattle.properties.specs.Calls.{workedDensity, pressureOf}
 use Rattle.inputs.specs.Inputs.{statePermit}
 use Rattle.lines.specs.Letters.{bytes}
-use Rattle.records.specs.Record.{numbersOf, markedOf, recordOf}
+use Rattle.records.specs.Record.{kindLetter, kindLettered, carried, numbersOf, ofFluid, markedOf, recordOf}
 use Rattle.questions.specs.Asked.{questionOf, answerOf}
 use Rattle.records.specs.Run.{recordAt, gathered}
 use Rattle.lines.specs.Text.{glyphOf, digitsOf, widthOf, decimalOf}
@@ -45,7 +45,7 @@ pub sample-printed :
     ≡ bytes "n mark code bits\n1 TD 0 0000000000000000\n2 TN 1 ----------------\n3 TD 2 ----------------\n4 -- 15 ----------------\n"
 unfolding
     textOf headerText linesOf linesUpTo gathered recordAt lineOf markText answerText dashes decimalOf widthOf digitsOf glyphOf
-    answerOf questionOf recordOf markedOf numbersOf bytesOf
+    answerOf questionOf recordOf markedOf ofFluid fluidLettered letterOf kindLettered kindLetter numbersOf carried bytesOf
     pressureOf statePermit workedDensity pressureValue stateOf keptOf sumsAt sumsTo sumsFirst rowFirst rowOf rowAt xAt bellAt
     powerAt _↑_ entryOf r245ca lnOf lnWork lnSteps mOf eOf expOf expWork expSteps squared within minus _▷_ _⊕_ _⊖_ _⊗_
     _⊘_ add sub mul div neg ofInt round ofBits toBits le lt eq

@@ -11,7 +11,7 @@ use Rattle.refusals.specs.declared.Answer.the-variants.{Number, Refused}
 use Rattle.refusals.specs.Code.{answerCodeOf}
 use Rattle.words.specs.Word.{byteAt}
 use Rattle.records.specs.declared.Record.{Record}
-use Rattle.records.specs.declared.Record.the-variants.{Numbers, NoReading, Unknown, Cut}
+use Rattle.records.specs.declared.Record.the-variants.{Marked, Unknown, Cut}
 use Rattle.lines.specs.Letters.{bytes}
 use Rattle.records.specs.Record.{recordOf}
 use Rattle.questions.specs.Asked.{answerOf}
@@ -27,8 +27,7 @@ letters s = byteAt s 0 ∷ byteAt s 1 ∷ []
 
 -- its mark; ?? if unknown, -- if cut
 abbrev pub markOf : Record → List ℕ → List ℕ
-markOf (Numbers F kind x y) s = letters s
-markOf NoReading s = letters s
+markOf (Marked kind F x y) s = letters s
 markOf Unknown s = bytes "??"
 markOf Cut s = bytes "--"
 

@@ -4,7 +4,8 @@ use mathlib.Core.Bool.{cond}
 use mathlib.Core.List.{List, [], _∷_, _++_}
 use Prim.Native.Nat.{ℕ, zero, suc, _+_, _/_, _%_}
 use lib.Dec.{ltb}
-use lib.ListN.{length, take, drop}
+use lib.ListN.{length}
+use Rattle.words.specs.Word.{placed}
 
 -- a digit below 16: `0` to `9`, then `a` to `f`
 unfoldable pub glyphOf : ℕ → ℕ
@@ -23,10 +24,6 @@ widthOf (suc k) n = cond (ltb n 10) 1 (suc (widthOf k (n / 10)))
 -- n in decimal; a number below 2⁶⁴ has at most 20 digits
 unfoldable pub decimalOf : ℕ → List ℕ
 decimalOf n = digitsOf 10 (widthOf 19 n) n
-
--- s with the text from the place at on
-abbrev pub placed : ℕ → List ℕ → List ℕ → List ℕ
-placed at text s = take at s ++ (text ++ drop (at + length text) s)
 
 -- the text was put into s from the place at on: it ends before the place end, and s became now
 pub record Put (at : ℕ) (text s : List ℕ) (end : ℕ) (now : List ℕ) : Type 0 where

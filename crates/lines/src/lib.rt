@@ -42,8 +42,7 @@ fn put_mark(s: &[u8], out: &mut [u8], at: usize) -> usize
 {
     let marked = read(s);
     match marked {
-        Record::Numbers(_, _, _, _) => put_letters(s, out, at),
-        Record::NoReading => put_letters(s, out, at),
+        Record::Marked(_, _, _, _) => put_letters(s, out, at),
         Record::Unknown => put_pair(b'?', b'?', out, at),
         Record::Cut => put_pair(b'-', b'-', out, at),
     }

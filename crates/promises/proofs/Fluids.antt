@@ -3,6 +3,10 @@ use mathlib.Core.Path.{sym, _∙_}
 use Rattle.promises.specs.OneOutcome.{OneResult}
 use Rattle.fluids.proofs.fluid_numbered.Kinds as fluid-numbered-kinds
 use Rattle.fluids.proofs.fluid_numbered.Reads as fluid-numbered-reads
+use Rattle.fluids.proofs.letter.Kinds as letter-kinds
+use Rattle.fluids.proofs.letter.Reads as letter-reads
+use Rattle.fluids.proofs.fluid_lettered.Kinds as fluid-lettered-kinds
+use Rattle.fluids.proofs.fluid_lettered.Reads as fluid-lettered-reads
 use Rattle.fluids.proofs.single_numbers.Kinds as single-numbers-kinds
 use Rattle.fluids.proofs.single_numbers.Reads as single-numbers-reads
 use Rattle.fluids.proofs.terms.Kinds as terms-kinds
@@ -16,6 +20,12 @@ use Rattle.fluids.proofs.estimate_terms.Reads as estimate-terms-reads
 
 pub fluid-numbered-one : OneResult _ fluid-numbered-kinds.ps fluid-numbered-kinds.r fluid-numbered-reads.Learnt
 fluid-numbered-one κs a x y e f p q = p ∙ sym q
+
+pub letter-one : OneResult _ letter-kinds.ps letter-kinds.r letter-reads.Learnt
+letter-one κs a x y e f p q = p ∙ sym q
+
+pub fluid-lettered-one : OneResult _ fluid-lettered-kinds.ps fluid-lettered-kinds.r fluid-lettered-reads.Learnt
+fluid-lettered-one κs a x y e f p q = p ∙ sym q
 
 pub single-numbers-one : OneResult _ single-numbers-kinds.ps single-numbers-kinds.r single-numbers-reads.Learnt
 single-numbers-one κs a x y e f p q = p ∙ sym q

@@ -1,4 +1,5 @@
 pub mod BothLists
+pub mod AsOne
 pub mod Refusals
 pub mod Words
 pub mod Arithmetic
@@ -26,6 +27,7 @@ pub mod Records
 pub mod Questions
 pub mod Lines
 pub mod Runs
+pub mod Writing
 pub mod Verriblom
 pub mod Probe
 pub mod Bench

@@ -5,10 +5,13 @@ use Prim.Native.Nat.{ℕ}
 use denote.Ref.{now}
 use Rattle.promises.specs.OneOutcome.{OneOutcome}
 use Rattle.promises.proofs.BothLists.{both-lists}
+use Rattle.promises.proofs.AsOne.{as-one}
 use Rattle.verriblom.proofs.verriblom_answer.Kinds as verriblom-answer-kinds
 use Rattle.verriblom.proofs.verriblom_answer.Reads as verriblom-answer-reads
 use Rattle.verriblom.proofs.verriblom_answers.Kinds as verriblom-answers-kinds
 use Rattle.verriblom.proofs.verriblom_answers.Reads as verriblom-answers-reads
+use Rattle.verriblom.proofs.verriblom_write.Kinds as verriblom-write-kinds
+use Rattle.verriblom.proofs.verriblom_write.Reads as verriblom-write-reads
 
 -- the bytes as well
 pub verriblom-answer-one : OneOutcome _ verriblom-answer-kinds.ps verriblom-answer-kinds.r (List ℕ) (λ κs e. now (e .1 .0)) verriblom-answer-reads.Learnt
@@ -17,3 +20,7 @@ verriblom-answer-one κs a x y e f p q = (p .0 ∙ sym (q .0), p .1 ∙ sym (q .
 -- the output and the code list as well
 pub verriblom-answers-one : OneOutcome _ verriblom-answers-kinds.ps verriblom-answers-kinds.r (List ℕ × List ℕ) (λ κs e. (now (e .1 .0), now (e .1 .1 .0))) verriblom-answers-reads.Learnt
 verriblom-answers-one κs a x y e f p q = both-lists p q
+
+-- the buffer as well
+pub verriblom-write-one : OneOutcome _ verriblom-write-kinds.ps verriblom-write-kinds.r (List ℕ) (λ κs e. now (e .1 .1 .1 .1 .0)) verriblom-write-reads.Learnt
+verriblom-write-one κs a x y e f p q = as-one p q

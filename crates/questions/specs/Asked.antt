@@ -14,22 +14,22 @@ use Rattle.outcomes.specs.Codes.{foundAnswerOf}
 use Rattle.records.specs.declared.Kind.{Kind}
 use Rattle.records.specs.declared.Kind.the-variants.{Density, NoSide}
 use Rattle.records.specs.declared.Record.{Record}
-use Rattle.records.specs.declared.Record.the-variants.{Numbers, Unknown, Cut}
+use Rattle.records.specs.declared.Record.the-variants.{Marked, Unknown, Cut}
 use Rattle.records.specs.Record.{recordOf}
 use Rattle.questions.specs.declared.Question.{Question}
 use Rattle.questions.specs.declared.Question.the-variants.{State, Search}
 
--- no side given is taken from below
+-- by the kind: no side given is taken from below; a no-reading record asks nothing, 1
 abbrev pub askedBy : Fluid → Kind → Float → Float → Question
 askedBy F Density T ρ = State F T ρ
 askedBy F Kind.FromBelow T P = Search F T P Side.FromBelow
 askedBy F Kind.FromAbove T P = Search F T P Side.FromAbove
 askedBy F NoSide T P = Search F T P Side.FromBelow
+askedBy F Kind.NoReading T x = Question.Refused Refusal.NoReading
 
--- the numbers of the bits, every NaN pattern a NaN; or 1, 14, 15
+-- the numbers of the bits, every NaN pattern a NaN; or 14, 15
 abbrev pub askedOf : Record → Question
-askedOf (Numbers F kind x y) = askedBy F kind (ofBits binary64 x) (ofBits binary64 y)
-askedOf Record.NoReading = Question.Refused Refusal.NoReading
+askedOf (Marked kind F x y) = askedBy F kind (ofBits binary64 x) (ofBits binary64 y)
 askedOf Unknown = Question.Refused UnknownMark
 askedOf Cut = Question.Refused CutShort
 

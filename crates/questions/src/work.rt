@@ -15,7 +15,7 @@ use words::number;
 ghost use mathlib.Core.Path.{_≡_};
 ghost use Rattle.questions.specs.Asked.{askedBy, askedOf, densityAt, workOf, answerOf};
 
-// What two numbers of a kind ask of a fluid; no side given is taken from below.
+// What two numbers of a kind ask of a fluid: no side given is taken from below, and a no-reading record asks nothing, 1.
 fn asked_by(fluid: Fluid, kind: Kind, t: f64, x: f64) -> Question
     ensures { λ r. ⌜ r ≡ askedBy fluid kind t x ⌝ }
 {
@@ -24,6 +24,7 @@ fn asked_by(fluid: Fluid, kind: Kind, t: f64, x: f64) -> Question
         Kind::FromBelow => Question::Search(fluid, t, x, Side::FromBelow),
         Kind::FromAbove => Question::Search(fluid, t, x, Side::FromAbove),
         Kind::NoSide => Question::Search(fluid, t, x, Side::FromBelow),
+        Kind::NoReading => Question::Refused(Refusal::NoReading),
     }
 }
 
@@ -32,8 +33,7 @@ pub fn asked(marked: Record) -> Question
     ensures { λ r. ⌜ r ≡ askedOf marked ⌝ }
 {
     match marked {
-        Record::Numbers(fluid, kind, x, y) => asked_by(fluid, kind, number(x), number(y)),
-        Record::NoReading => Question::Refused(Refusal::NoReading),
+        Record::Marked(kind, fluid, x, y) => asked_by(fluid, kind, number(x), number(y)),
         Record::Unknown => Question::Refused(Refusal::UnknownMark),
         Record::Cut => Question::Refused(Refusal::CutShort),
     }

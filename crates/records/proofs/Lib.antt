@@ -1,2 +1,4 @@
 pub mod Whole
+pub mod Laid
+pub mod RoundTrip
 pub mod InTwo

@@ -7,12 +7,11 @@ use borrow.Author.Tests.{eqb-true}
 use lib.Dec.{eqb}
 use lib.ListN.{length}
 use Rattle.records.specs.declared.Record.{Record}
-use Rattle.records.specs.declared.Record.the-variants.{Numbers, NoReading, Unknown, Cut}
+use Rattle.records.specs.declared.Record.the-variants.{Marked, Unknown, Cut}
 use Rattle.records.specs.Record.{recordOf}
 
 abbrev pub Whole : Record → Type 0
-Whole (Numbers F kind x y) = Unit
-Whole NoReading = Unit
+Whole (Marked kind F x y) = Unit
 Whole Unknown = Unit
 Whole Cut = ⊥
 

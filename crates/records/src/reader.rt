@@ -1,33 +1,46 @@
 // A record read as bits: a two-byte mark and two binary64 numbers, the lowest byte first.
 use crate::Kind;
+use crate::Lettered;
 use crate::RECORD_LENGTH;
 use crate::Record;
+use crate::mark::carries_numbers;
+use crate::mark::kind_lettered;
 use fluids::Fluid;
+use fluids::Named;
+use fluids::fluid_lettered;
 use words::word;
 ghost use mathlib.Core.Path.{_≡_};
 ghost use lib.ListN.{length};
-ghost use Rattle.records.specs.Record.{numbersOf, letteredOf, markedOf, recordOf};
+ghost use Rattle.records.specs.Record.{numbersOf, kindLettered, ofFluid, markedOf, recordOf};
 
-// The two numbers after the mark, eight bytes each: where their length is in sight, no byte is tested for being there.
-fn numbers(fluid: Fluid, kind: Kind, s: &[u8]) -> Record
+// The two numbers after the mark, eight bytes each: where their length is in sight, no byte is tested for being there. Of a no-reading
+// record none is looked at.
+fn numbers(kind: Kind, fluid: Fluid, s: &[u8]) -> Record
     requires { ⌜ length (now s) ≡ 18 ⌝ }
-    ensures { λ r. ⌜ r ≡ numbersOf fluid kind (now (s .entry)) ⌝ }
+    ensures { λ r. ⌜ r ≡ numbersOf kind fluid (now (s .entry)) ⌝ }
 {
-    Record::Numbers(fluid, kind, word(&s[2..10]), word(&s[10..18]))
+    if carries_numbers(kind) {
+        Record::Marked(kind, fluid, word(&s[2..10]), word(&s[10..18]))
+    } else {
+        Record::Marked(kind, fluid, 0, 0)
+    }
+}
+
+fn lettered_byte(letter: u8) -> Lettered
+    ensures { λ r. ⌜ r ≡ kindLettered letter ⌝ }
+{
+    kind_lettered(letter as u32)
 }
 
 // The mark's second letter says what they are.
-fn lettered(fluid: Fluid, letter: u8, s: &[u8]) -> Record
+fn of_fluid(fluid: Fluid, s: &[u8]) -> Record
     requires { ⌜ length (now s) ≡ 18 ⌝ }
-    ensures { λ r. ⌜ r ≡ letteredOf fluid letter (now (s .entry)) ⌝ }
+    ensures { λ r. ⌜ r ≡ ofFluid fluid (now (s .entry)) ⌝ }
 {
-    match letter {
-        b'D' => numbers(fluid, Kind::Density, s),
-        b'B' => numbers(fluid, Kind::FromBelow, s),
-        b'A' => numbers(fluid, Kind::FromAbove, s),
-        b'P' => numbers(fluid, Kind::NoSide, s),
-        b'N' => Record::NoReading,
-        _ => Record::Unknown,
+    let lettered = lettered_byte(s[1]);
+    match lettered {
+        Lettered::Known(kind) => numbers(kind, fluid, s),
+        Lettered::Unknown => Record::Unknown,
     }
 }
 
@@ -36,10 +49,10 @@ fn marked(s: &[u8]) -> Record
     requires { ⌜ length (now s) ≡ 18 ⌝ }
     ensures { λ r. ⌜ r ≡ markedOf (now (s .entry)) ⌝ }
 {
-    match s[0] {
-        b'T' => lettered(Fluid::R245ca, s[1], s),
-        b'F' => lettered(Fluid::R245fa, s[1], s),
-        _ => Record::Unknown,
+    let named = fluid_lettered(s[0]);
+    match named {
+        Named::Known(fluid) => of_fluid(fluid, s),
+        Named::Unknown => Record::Unknown,
     }
 }
 

@@ -1,9 +1,11 @@
 // The calls for C, thin over the crates that do the work: include/verriblom.h says what each is asked and answers.
 use questions::answer_into;
 use runs::answers_into;
+use writing::write;
 ghost use mathlib.Core.Path.{_≡_};
 ghost use Rattle.questions.specs.Call.{callCode, callOutput};
 ghost use Rattle.runs.specs.Answers.{runCode, runOutput, runCodes};
+ghost use Rattle.writing.specs.Write.{writeOf};
 
 // Answers a record of exactly 18 bytes, up to the fluid's own top where it searches: 0, and the bits of the pressure in Pa or of the
 // density in mol/dm³ in the first eight bytes of out, the lowest first; or the refusal's number, and out as it was.
@@ -25,4 +27,21 @@ pub extern "C" fn verriblom_answers(run: &[u8], out: &mut [u8], codes: &mut [u32
         × (now (codes .exit) ≡ runCodes (now (run .entry)) (now (out .entry)) (now (codes .entry))) ⌝ }
 {
     answers_into(run, out, codes)
+}
+
+// Writes the record of a kind, a fluid and two numbers' bits into the 18 bytes of buffer from place on, its other bytes as they were: 0. The kind is the
+// code of the mark's second letter; a no-reading record gets sixteen zero bytes, whatever bits are handed over. Or 14 for another kind, then 17 where
+// no fluid has the number, then 7 where 18 bytes have no room there; and the whole buffer is as it was.
+#[no_mangle]
+pub extern "C" fn verriblom_write(
+    kind: u32,
+    fluid: u32,
+    first: u64,
+    second: u64,
+    buffer: &mut [u8],
+    place: usize,
+) -> u32
+    ensures { λ r. ⌜ (r, now (buffer .exit)) ≡ writeOf kind fluid first second (now (buffer .entry)) place ⌝ }
+{
+    write(kind, fluid, first, second, buffer, place)
 }

@@ -25,12 +25,6 @@ put-letters-requires c κs =
     let whole = whole-length _ (sym (c .before .enum-told .given .1) ∙ read .read .ensures) tt in
     (omega arith, search needs)
 
-put-letters-requires-2 : tie.Need-put-letters-requires-2
-put-letters-requires-2 c κs =
-    let read = c .before .before .before in
-    let whole = whole-length _ (sym (c .before .enum-told2 .given .1) ∙ read .read .ensures) tt in
-    (omega arith, search needs)
-
 returns : tie.Need-returns
 returns c =
     let told = c .before .before .before .before in
@@ -39,17 +33,12 @@ returns c =
 returns-2 : tie.Need-returns-2
 returns-2 c =
     let told = c .before .before .before .before in
-    as-text (mark-is _ (told .before .before .read .ensures) (told .enum-told2 .given .1)) (c .before .before .put-letters2 .ensures)
+    as-text (mark-is _ (told .before .before .read .ensures) (told .enum-told2 .given .1)) (c .before .before .put-pair .ensures)
 
 returns-3 : tie.Need-returns-3
 returns-3 c =
     let told = c .before .before .before .before in
-    as-text (mark-is _ (told .before .before .read .ensures) (told .enum-told3 .given .1)) (c .before .before .put-pair .ensures)
-
-returns-4 : tie.Need-returns-4
-returns-4 c =
-    let told = c .before .before .before .before in
-    as-text (mark-is _ (told .before .before .read .ensures) (told .enum-told4 .given .1)) (c .before .before .put-pair2 .ensures)
+    as-text (mark-is _ (told .before .before .read .ensures) (told .enum-told3 .given .1)) (c .before .before .put-pair2 .ensures)
 
 pub put-mark-spec : {M : Type 1} → statement M
 put-mark-spec =
@@ -59,8 +48,6 @@ put-mark-spec =
     enum-told
     put-letters-requires
     (λ c. search needs)
-    put-letters-requires-2
-    (λ c. search needs)
     (λ c κs. search needs)
     (λ c. search needs)
     (λ c κs. search needs)
@@ -69,6 +56,4 @@ put-mark-spec =
     (λ c. search needs)
     returns-2
     (λ c. search needs)
-    returns-3
-    (λ c. search needs)
-    returns-4)
+    returns-3)

@@ -20,9 +20,6 @@ returns-2 c = rw (c .enum-told .given .1) refl
 returns-3 : tie.Need-returns-3
 returns-3 c = rw (c .enum-told2 .given .1) refl
 
-returns-4 : tie.Need-returns-4
-returns-4 c = rw (c .enum-told3 .given .1) refl
-
 pub asked-spec : {M : Type 1} → statement M
 asked-spec =
     tie.close
@@ -33,8 +30,6 @@ asked-spec =
     (λ c κs. search needs)
     enum-told
     (λ c. search needs)
-    (λ c. search needs)
     returns
     returns-2
-    returns-3
-    returns-4)
+    returns-3)

@@ -19,7 +19,10 @@ returns-3 c = rw (c .enum-told3 .given .1) refl
 returns-4 : tie.Need-returns-4
 returns-4 c = rw (c .enum-told4 .given .1) refl
 
+returns-5 : tie.Need-returns-5
+returns-5 c = rw (c .enum-told5 .given .1) refl
+
 pub asked-by-spec : {M : Type 1} → statement M
 asked-by-spec =
     tie.close
-    (tie.spec enum-told (λ c. search needs) (λ c. search needs) (λ c. search needs) returns returns-2 returns-3 returns-4)
+    (tie.spec enum-told (λ c. search needs) (λ c. search needs) (λ c. search needs) (λ c. search needs) returns returns-2 returns-3 returns-4 returns-5)
