@@ -1,6 +1,6 @@
 -- Reading and writing undo each other: letters name what has them, and a word's eight bytes give the word back.
 use mathlib.Core.Path.{_≡_, refl, sym, _∙_, ap}
-use mathlib.Core.Bool.{Bool, true, false}
+use mathlib.Core.Bool.{Bool, true, false, true≢false}
 use mathlib.Core.List.{List, [], _∷_, _++_, append-nil}
 use Prim.Native.Nat.{ℕ, suc, _+_, _^_, _≤_, _<_}
 use native.Mathlib.Omega.{arith}
@@ -43,7 +43,7 @@ letter-of-kind b kind =
     (this-or-after kindLetter Known b (λ e. cc)
     (this-or-after kindLetter Known b (λ e. cc)
     (this-or-after kindLetter Known b (λ e. cc)
-    (λ none. let clash : _≡_ {A = ℕ} 0 1 = cc in absurd (omega arith))))))
+    (λ none. absurd (true≢false cc))))))
 
 -- ---- what a kind carries
 
@@ -117,12 +117,12 @@ module _ (s : List ℕ) (kind : Kind) (F : Fluid) (x y : ℕ) where
 
   says-kind : (G : Fluid) → fluidLettered (byteAt s 0) ≡ Named.Known G → (l : Lettered) → kindLettered (byteAt s 1) ≡ l → byKind l G s ≡ Marked kind F x y → Says s kind F x y
   says-kind G f (Known k) l e = says-numbers f l e
-  says-kind G f Unknown l e = let clash : _≡_ {A = ℕ} 0 1 = cc in absurd (omega arith)
+  says-kind G f Unknown l e = absurd (true≢false cc)
 
   says-fluid : (n : Named) → fluidLettered (byteAt s 0) ≡ n → byFluid n s ≡ Marked kind F x y → Says s kind F x y
   unfolding ofFluid
   says-fluid (Named.Known G) f e = says-kind G f (kindLettered (byteAt s 1)) refl e
-  says-fluid Named.Unknown f e = let clash : _≡_ {A = ℕ} 0 1 = cc in absurd (omega arith)
+  says-fluid Named.Unknown f e = absurd (true≢false cc)
 
   module _ (read : recordOf s ≡ Marked kind F x y) where
     pub whole : length s ≡ 18

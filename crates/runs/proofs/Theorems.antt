@@ -15,6 +15,7 @@ use Rattle.refusals.specs.declared.Permit.the-variants.{Granted, Denied}
 use Rattle.refusals.specs.Code.{permitCodeOf}
 use Rattle.refusals.specs.Order.{leftBy}
 use Rattle.refusals.proofs.Tests.{by}
+use Rattle.refusals.proofs.Apart.{another-code}
 use Rattle.refusals.proofs.InOrder.{by-permit}
 use Rattle.words.proofs.Blocks.{all-length, block-there}
 use Rattle.records.specs.Record.{recordOf}
@@ -75,34 +76,30 @@ module _ (s out codes : List ℕ) where
   short-is (inl h) = output-short (recordCount s) (length out) (length codes) h
   short-is (inr h) = codes-short (recordCount s) (length out) (length codes) h
 
-  -- two codes of one run
-  apart : {p : Permit} (n : ℕ) → runPermit s out codes ≡ p → runCode s out codes ≡ n → permitCodeOf p ≡ n
-  apart n e f = sym (coded e) ∙ f
-
   pub exactly-seven : (runCode s out codes ≡ 7) ↔ ((length out < 8 * recordCount s) ⊎ (length codes < recordCount s))
   exactly-seven = (
     λ e. by-lengths (recordCount s) (length out) (length codes) inl inr
-        (λ a b h. let clash : _≡_ {A = ℕ} 18 7 = apart 7 (many-is a b h) e in absurd (omega arith))
-        (λ a b h. let clash : _≡_ {A = ℕ} 0 7 = apart 7 (granted-is a b h) e in absurd (omega arith)),
+        (λ a b h. another-code tt (coded (many-is a b h)) e)
+        (λ a b h. another-code tt (coded (granted-is a b h)) e),
     λ h. coded (short-is h),
   )
 
   pub exactly-eighteen : (runCode s out codes ≡ 18) ↔ ((8 * recordCount s ≤ length out) × (recordCount s ≤ length codes) × (4096 < recordCount s))
   exactly-eighteen = (
     λ e. by-lengths (recordCount s) (length out) (length codes)
-        (λ h. let clash : _≡_ {A = ℕ} 7 18 = apart 18 (short-is (inl h)) e in absurd (omega arith))
-        (λ h. let clash : _≡_ {A = ℕ} 7 18 = apart 18 (short-is (inr h)) e in absurd (omega arith))
+        (λ h. another-code tt (coded (short-is (inl h))) e)
+        (λ h. another-code tt (coded (short-is (inr h))) e)
         (λ a b h. (a, b, h))
-        (λ a b h. let clash : _≡_ {A = ℕ} 0 18 = apart 18 (granted-is a b h) e in absurd (omega arith)),
+        (λ a b h. another-code tt (coded (granted-is a b h)) e),
     λ h. coded (many-is (h .0) (h .1) (h .2)),
   )
 
   pub exactly-answered : (runCode s out codes ≡ 0) ↔ ((8 * recordCount s ≤ length out) × (recordCount s ≤ length codes) × (recordCount s ≤ 4096))
   exactly-answered = (
     λ e. by-lengths (recordCount s) (length out) (length codes)
-        (λ h. let clash : _≡_ {A = ℕ} 7 0 = apart 0 (short-is (inl h)) e in absurd (omega arith))
-        (λ h. let clash : _≡_ {A = ℕ} 7 0 = apart 0 (short-is (inr h)) e in absurd (omega arith))
-        (λ a b h. let clash : _≡_ {A = ℕ} 18 0 = apart 0 (many-is a b h) e in absurd (omega arith))
+        (λ h. another-code tt (coded (short-is (inl h))) e)
+        (λ h. another-code tt (coded (short-is (inr h))) e)
+        (λ a b h. another-code tt (coded (many-is a b h)) e)
         (λ a b h. (a, b, h)),
     λ h. coded (granted-is (h .0) (h .1) (h .2)),
   )

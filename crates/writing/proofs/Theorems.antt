@@ -5,12 +5,13 @@ use mathlib.Core.Bool.{true, false}
 use mathlib.Core.List.{List, [], _∷_, _++_}
 use Prim.Native.Nat.{ℕ, _+_, _^_, _≤_, _<_}
 use native.Mathlib.Omega.{arith}
-use borrow.Author.Tests.{le-leb, lt-leb, leb-true, leb-false, eq-eqb}
-use lib.Dec.{leb, eqb}
+use borrow.Author.Tests.{le-leb, lt-leb, leb-true, leb-false}
+use lib.Dec.{leb}
 use lib.ListN.{length, take, drop, replicate}
 use Rattle.refusals.specs.declared.Refusal.the-variants.{UnknownMark, UnknownFluid, TooShort}
 use Rattle.refusals.specs.Code.{codeOf, OneOf}
 use Rattle.refusals.proofs.Tests.{by}
+use Rattle.refusals.proofs.Apart.{another-code}
 use Rattle.words.specs.Word.{Bytes, placed}
 use Rattle.words.proofs.Placed.{placed-before, placed-there, placed-after}
 use Rattle.fluids.specs.declared.Fluid.{Fluid}
@@ -49,14 +50,6 @@ by-fluid {X} n none some = go (fluidNumbered n) refl
     go (Named.Known F) e = some (F, e)
     go Named.Unknown e = none e
 
--- a call that ended with one code did not end with another
-another : {X : Type 0} {ended : Ended} {l : List ℕ} (a b : ℕ) → ended ≡ (a, l) → ended .0 ≡ b → eqb a b ≡ false → X
-another a b ends e apart =
-    let same : a ≡ b = sym (ap (λ (x : Ended). x .0) ends) ∙ e in
-    let clash : true ≡ false = sym (eq-eqb a b same) ∙ apart in
-    let none : _≡_ {A = ℕ} 0 1 = cc in
-    absurd (omega arith)
-
 module _ (kind fluid x y : ℕ) (buffer : List ℕ) (place : ℕ) where
   -- ---- the four ways in which the call ends
 
@@ -77,6 +70,9 @@ module _ (kind fluid x y : ℕ) (buffer : List ℕ) (place : ℕ) where
   unfolding writeOf writtenOf
   ends-with-0 k f h = simp (k .1, f .1) (with-room (k .0) (f .0) x y buffer place (le-leb (place + 18) (length buffer) h))
 
+  code-is : {n : ℕ} {l : List ℕ} → writeOf kind fluid x y buffer place ≡ (n, l) → writeOf kind fluid x y buffer place .0 ≡ n
+  code-is ends = ap (λ (x : Ended). x .0) ends
+
   by-end : {X : Type 0} → (kindLettered kind ≡ Unknown → X) → (NamesKind kind → fluidNumbered fluid ≡ Named.Unknown → X) →
       (NamesKind kind → NamesFluid fluid → length buffer < place + 18 → X) → (NamesKind kind → NamesFluid fluid → place + 18 ≤ length buffer → X) → X
   by-end no-kind no-fluid no-room written =
@@ -92,40 +88,40 @@ module _ (kind fluid x y : ℕ) (buffer : List ℕ) (place : ℕ) where
   exactly-fourteen = (
     λ e. by-end
         (λ u. u)
-        (λ k u. another 17 14 (ends-with-17 k u) e refl)
-        (λ k f h. another 7 14 (ends-with-7 k f h) e refl)
-        (λ k f h. another 0 14 (ends-with-0 k f h) e refl),
-    λ u. ap (λ (x : Ended). x .0) (ends-with-14 u),
+        (λ k u. another-code tt (code-is (ends-with-17 k u)) e)
+        (λ k f h. another-code tt (code-is (ends-with-7 k f h)) e)
+        (λ k f h. another-code tt (code-is (ends-with-0 k f h)) e),
+    λ u. code-is (ends-with-14 u),
   )
 
   pub exactly-seventeen : (writeOf kind fluid x y buffer place .0 ≡ 17) ↔ (NamesKind kind × (fluidNumbered fluid ≡ Named.Unknown))
   exactly-seventeen = (
     λ e. by-end
-        (λ u. another 14 17 (ends-with-14 u) e refl)
+        (λ u. another-code tt (code-is (ends-with-14 u)) e)
         (λ k u. (k, u))
-        (λ k f h. another 7 17 (ends-with-7 k f h) e refl)
-        (λ k f h. another 0 17 (ends-with-0 k f h) e refl),
-    λ h. ap (λ (x : Ended). x .0) (ends-with-17 (h .0) (h .1)),
+        (λ k f h. another-code tt (code-is (ends-with-7 k f h)) e)
+        (λ k f h. another-code tt (code-is (ends-with-0 k f h)) e),
+    λ h. code-is (ends-with-17 (h .0) (h .1)),
   )
 
   pub exactly-seven : (writeOf kind fluid x y buffer place .0 ≡ 7) ↔ (NamesKind kind × NamesFluid fluid × (length buffer < place + 18))
   exactly-seven = (
     λ e. by-end
-        (λ u. another 14 7 (ends-with-14 u) e refl)
-        (λ k u. another 17 7 (ends-with-17 k u) e refl)
+        (λ u. another-code tt (code-is (ends-with-14 u)) e)
+        (λ k u. another-code tt (code-is (ends-with-17 k u)) e)
         (λ k f h. (k, f, h))
-        (λ k f h. another 0 7 (ends-with-0 k f h) e refl),
-    λ h. ap (λ (x : Ended). x .0) (ends-with-7 (h .0) (h .1) (h .2)),
+        (λ k f h. another-code tt (code-is (ends-with-0 k f h)) e),
+    λ h. code-is (ends-with-7 (h .0) (h .1) (h .2)),
   )
 
   pub exactly-written : (writeOf kind fluid x y buffer place .0 ≡ 0) ↔ (NamesKind kind × NamesFluid fluid × (place + 18 ≤ length buffer))
   exactly-written = (
     λ e. by-end
-        (λ u. another 14 0 (ends-with-14 u) e refl)
-        (λ k u. another 17 0 (ends-with-17 k u) e refl)
-        (λ k f h. another 7 0 (ends-with-7 k f h) e refl)
+        (λ u. another-code tt (code-is (ends-with-14 u)) e)
+        (λ k u. another-code tt (code-is (ends-with-17 k u)) e)
+        (λ k f h. another-code tt (code-is (ends-with-7 k f h)) e)
         (λ k f h. (k, f, h)),
-    λ h. ap (λ (x : Ended). x .0) (ends-with-0 (h .0) (h .1) (h .2)),
+    λ h. code-is (ends-with-0 (h .0) (h .1) (h .2)),
   )
 
   -- and no other
