@@ -7,8 +7,8 @@
  * what the numbers are.
  *
  *     TD FD   temperature, density     asks for the pressure
- *     TB FB   temperature, pressure    asks for the density, searched from below (the vapour side)
- *     TA FA   temperature, pressure    asks for the density, searched from above (the liquid side)
+ *     TB FB   temperature, pressure    asks for the density, searched from below (from zero up)
+ *     TA FA   temperature, pressure    asks for the density, searched from above (from the top down)
  *     TP FP   temperature, pressure    no side given: taken from below
  *     TN FN   no reading: refused with 1, its sixteen bytes are not looked at
  *

@@ -295,8 +295,8 @@ def density(
 ) -> float:
     """The density in mol/dm³ at a temperature in K and a pressure in Pa; raises Refused.
 
-    `side` is FROM_BELOW (the vapour side), FROM_ABOVE (the liquid side), or
-    NO_SIDE, which is taken from below.
+    `side` is FROM_BELOW (from zero up), FROM_ABOVE (from the top down), or NO_SIDE, which is
+    taken from below.
     """
     if side not in (Mark.FROM_BELOW, Mark.FROM_ABOVE, Mark.NO_SIDE):
         raise ValueError(f"{side} is no side")

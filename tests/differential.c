@@ -6,10 +6,10 @@
  *
  * COUNT questions for each call of each fluid. A WORD is the number of a call
  * of a fluid, the name of a group of calls (elementary, properties, estimates,
- * searches), or one of unknown (numbers that are no call or ask no fluid), mixed
- * (all calls of all fluids by turns), second (a call of one number does not look
- * at the second) and pieces (inputs of 0 to 49 bytes). Without a WORD everything
- * is asked.
+ * searches, words), or one of unknown (numbers that are no call or ask no fluid),
+ * mixed (all calls of all fluids by turns), second (a call of one number does not
+ * look at the second) and pieces (inputs of 0 to 49 bytes). Without a WORD
+ * everything is asked.
  */
 #include "differential/asked.h"
 #include "generator.h"
@@ -29,6 +29,7 @@ static const struct group groups[] = {
     { "properties", PROPERTY, PROPERTY },
     { "estimates", ESTIMATE, ESTIMATE },
     { "searches", PLAIN_SEARCH, QUICK_SEARCH },
+    { "words", PLAIN_WORD, PLAIN_WORD },
 };
 
 enum { GROUPS = sizeof groups / sizeof *groups };
@@ -149,7 +150,7 @@ static bool compare_named(struct asked *asked, const char *name)
 static int usage(void)
 {
     fprintf(stderr, "usage: differential PROBE SEED COUNT [NUMBER|elementary|properties|estimates|"
-                    "searches|unknown|mixed|second|pieces]...\n");
+                    "searches|words|unknown|mixed|second|pieces]...\n");
     return EXIT_FAILURE;
 }
 

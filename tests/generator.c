@@ -42,7 +42,7 @@ static uint64_t any_number(struct generator *g)
         19,
         23,
         29,
-        34,
+        36,
         99,
         101,
         102,
@@ -99,6 +99,8 @@ static struct question arguments(struct generator *g, const struct call *call,
         return (struct question){ .first = first, .second = any_bits(g) };
     case PROPERTY:
         return state(g, fluid);
+    case PLAIN_WORD:
+        return below(g, 2) ? critical_search(g, fluid) : search(g, fluid);
     default:
         return search(g, fluid);
     }

@@ -27,9 +27,12 @@ static const uint64_t codes_owed[LIST_CALLS] = {
     [QUICK_ABOVE] = 1 << 0 | 1 << 2 | 1 << 3 | 1 << 5 | 1 << 6 | 1 << 7 | 1 << 8 | 1 << 16,
 };
 
+/* By a word's number, 0 where there is none. */
+enum { WORDS = 4 };
+
 /* One call of one fluid, or of none where the number is unknown. */
 struct tally {
-    uint64_t asked[CODES], differing;
+    uint64_t asked[CODES], named[WORDS], differing;
 };
 
 enum { NO_FLUID = FLUIDS };
@@ -86,6 +89,7 @@ static void compare_all(const struct lent_memory *memory, uint64_t seed, uint64_
         ask_package(memory, &question, &got);
         answer_list_question(&question, &wanted);
         tally_of(tallies, &question)->asked[wanted.code]++;
+        tally_of(tallies, &question)->named[wanted.word]++;
         if (same_reply(&got, &wanted))
             continue;
         tally_of(tallies, &question)->differing++;
@@ -104,7 +108,20 @@ static uint64_t codes_owed_by(int fluid, int call)
     return fluid == NO_FLUID ? (uint64_t)1 << REFUSED_UNKNOWN_FLUID : codes_owed[call];
 }
 
-/* One call of one fluid: how many questions were equal, by their codes, and whether a code it owes never came. */
+/* Each word must have been met by each search of each fluid. */
+static bool words_missing(const struct tally *tally, int fluid, int call)
+{
+    bool missing = false;
+    if (fluid == NO_FLUID || call == PREPARE)
+        return false;
+    for (int word = 1; word < WORDS; word++) {
+        printf(", word %d: %" PRIu64, word, tally->named[word]);
+        missing |= tally->named[word] == 0;
+    }
+    return missing;
+}
+
+/* One call of one fluid: how many questions were equal, by their codes, and whether a code or a word it owes never came. */
 static bool show_call(const struct tally *tally, int fluid, int call)
 {
     uint64_t asked = 0, missing = codes_owed_by(fluid, call);
@@ -113,16 +130,16 @@ static bool show_call(const struct tally *tally, int fluid, int call)
         if (tally->asked[code] > 0)
             missing &= ~((uint64_t)1 << code);
     }
-    bool passed = tally->differing == 0 && missing == 0;
-    printf("%s, %s over lists: %s%" PRIu64 " questions, %" PRIu64 " differ", fluid_name(fluid),
-           call_names[call], passed ? "" : "FAILED, ", asked, tally->differing);
+    printf("%s, %s over lists: %" PRIu64 " questions, %" PRIu64 " differ", fluid_name(fluid), call_names[call],
+           asked, tally->differing);
     for (int code = 0; code < CODES; code++)
         if (tally->asked[code] > 0)
             printf(", code %d: %" PRIu64, code, tally->asked[code]);
     for (int code = 0; code < CODES; code++)
         if (missing >> code & 1)
             printf(", code %d never", code);
-    printf("\n");
+    bool passed = !words_missing(tally, fluid, call) && tally->differing == 0 && missing == 0;
+    printf(passed ? "\n" : ": FAILED\n");
     return passed;
 }
 

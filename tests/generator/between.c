@@ -22,6 +22,11 @@ double greatest_density(const struct fluid *fluid)
     return fluid->rho.greatest;
 }
 
+double critical_density(const struct fluid *fluid)
+{
+    return fluid->rhoc;
+}
+
 double greatest_pressure(const struct fluid *fluid)
 {
     return fluid->P.greatest;

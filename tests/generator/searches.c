@@ -63,3 +63,27 @@ struct question search(struct generator *g, const struct fluid *fluid)
         .second = asked_pressure(g, fluid, number_of(g->T_bits)),
     };
 }
+
+/* At the critical density itself, on its way there, or between two fluids'. */
+static double about_critical_density(struct generator *g, const struct fluid *fluid)
+{
+    switch (below(g, 4)) {
+    case 0:
+        return number_of(closing_in(g, fluid->rhoc, 1));
+    case 1:
+        return number_of(between_fluids(g, critical_density));
+    default:
+        return fluid->rhoc;
+    }
+}
+
+/* The word changes at Tc and, below it, at the critical density; just below Tc states of about that density are found. */
+struct question critical_search(struct generator *g, const struct fluid *fluid)
+{
+    uint64_t T = below(g, 4) ? closing_in(g, fluid->Tc, 1) : nearby(g, fluid->Tc);
+    double rho = about_critical_density(g, fluid);
+    return (struct question){
+        .first = T,
+        .second = nearby(g, property_at(fluid, PRESSURE, number_of(T), rho).value),
+    };
+}

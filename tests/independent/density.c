@@ -41,15 +41,29 @@ static uint64_t search_refusal(const struct fluid *fluid, double T, double P, ui
     return ANSWERED;
 }
 
-static enum word word_of(const struct fluid *fluid, double T, enum side side)
+/* M-104: by the density found, not by the side that it was searched from. */
+static enum word word_of(const struct fluid *fluid, double T, double rho)
 {
     if (T >= fluid->Tc)
         return FLUID;
-    return side == BELOW ? VAPOUR : LIQUID;
+    return rho < fluid->rhoc ? VAPOUR : LIQUID;
 }
 
-static struct found density_in(const struct isotherm *isotherm, struct place cell, double P,
-                               enum side side)
+uint64_t word_number(enum word word)
+{
+    switch (word) {
+    case FLUID:
+        return 1;
+    case VAPOUR:
+        return 2;
+    case LIQUID:
+        return 3;
+    default:
+        return 0;
+    }
+}
+
+static struct found density_in(const struct isotherm *isotherm, struct place cell, double P)
 {
     if (cell.code != ANSWERED)
         return no_density(cell.code);
@@ -57,10 +71,11 @@ static struct found density_in(const struct isotherm *isotherm, struct place cel
     struct place step = step_in_cell(&p, P, cell.number);
     if (step.code != ANSWERED)
         return no_density(step.code);
+    double rho = density_of_step(step.number);
     return (struct found){
         .code = ANSWERED,
-        .rho = density_of_step(step.number),
-        .word = word_of(isotherm->fluid, isotherm->T, side),
+        .rho = rho,
+        .word = word_of(isotherm->fluid, isotherm->T, rho),
     };
 }
 
@@ -72,7 +87,7 @@ struct found plain_density(const struct fluid *fluid, double T, double P, uint64
         return no_density(code);
     struct isotherm isotherm = isotherm_at(fluid, T);
     struct pressures p = pressures_of(&isotherm);
-    return density_in(&isotherm, plain_cell(&p, P, c, side), P, side);
+    return density_in(&isotherm, plain_cell(&p, P, c, side), P);
 }
 
 uint64_t prepare(const struct fluid *fluid, double T, uint64_t c, struct lists lists)
@@ -101,5 +116,5 @@ struct found quick_density(const struct fluid *fluid, double T, double P, uint64
     struct isotherm isotherm = isotherm_at(fluid, T);
     struct pressures p = pressures_of(&isotherm);
     const double *list = side == BELOW ? lists.G.list : lists.L.list;
-    return density_in(&isotherm, quick_cell(&p, P, c, list), P, side);
+    return density_in(&isotherm, quick_cell(&p, P, c, list), P);
 }

@@ -24,6 +24,9 @@ struct lists {
     struct lent G, L;
 };
 
+/* 1 for fluid, 2 for vapour, 3 for liquid, and 0 where there is none. */
+uint64_t word_number(enum word word);
+
 /* The density of step k. */
 double density_of_step(uint64_t k);
 

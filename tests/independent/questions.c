@@ -28,6 +28,8 @@ const struct call known_calls[] = {
     { 31, "plain search from above", PLAIN_SEARCH, ABOVE },
     { 32, "quick search from below", QUICK_SEARCH, BELOW },
     { 33, "quick search from above", QUICK_SEARCH, ABOVE },
+    { 34, "word of the plain search from below", PLAIN_WORD, BELOW },
+    { 35, "word of the plain search from above", PLAIN_WORD, ABOVE },
 };
 
 const size_t known_calls_count = sizeof known_calls / sizeof *known_calls;
@@ -127,6 +129,13 @@ static struct answer refusal(uint64_t code)
     return (struct answer){ .code = code, .bits = NO_BITS };
 }
 
+static struct answer word_answer(struct found found)
+{
+    if (found.code != ANSWERED)
+        return refusal(found.code);
+    return (struct answer){ .code = ANSWERED, .bits = word_number(found.word) };
+}
+
 struct answer answer_question(uint64_t number, uint64_t a, uint64_t b)
 {
     const struct call *call = known_call(number);
@@ -135,6 +144,8 @@ struct answer answer_question(uint64_t number, uint64_t a, uint64_t b)
         return refusal(REFUSED_UNKNOWN);
     if (fluid == NULL)
         return refusal(REFUSED_UNKNOWN_FLUID);
+    if (call->family == PLAIN_WORD)
+        return word_answer(plain_density(fluid, number_of(a), number_of(b), fluid->top, call->which));
     struct outcome outcome = outcome_of(call, fluid, number_of(a), number_of(b));
     if (outcome.code != ANSWERED)
         return refusal(outcome.code);

@@ -16,7 +16,7 @@ struct answer {
 /* The bits beside a refusal. */
 #define NO_BITS UINT64_MAX
 
-enum family { ELEMENTARY, PROPERTY, ESTIMATE, PLAIN_SEARCH, QUICK_SEARCH };
+enum family { ELEMENTARY, PROPERTY, ESTIMATE, PLAIN_SEARCH, QUICK_SEARCH, PLAIN_WORD };
 
 /* A question's number n asks the fluid n / 100 for the call n mod 100. */
 enum { FLUID_STRIDE = 100 };

@@ -62,20 +62,6 @@ static struct found outcome(const struct list_question *question, struct lists l
     }
 }
 
-static uint64_t word_number(enum word word)
-{
-    switch (word) {
-    case FLUID:
-        return 1;
-    case VAPOUR:
-        return 2;
-    case LIQUID:
-        return 3;
-    default:
-        return 0;
-    }
-}
-
 void answer_list_question(const struct list_question *question, struct list_reply *reply)
 {
     static struct held_numbers numbers;

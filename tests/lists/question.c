@@ -159,14 +159,31 @@ static void ask_permitted(struct generator *g, struct list_question *question,
     question->lent_G = question->lent_L = PLACES;
 }
 
+/* States about the critical point, where the word changes. */
+static void ask_critical(struct generator *g, struct list_question *question, const struct fluid *fluid)
+{
+    struct question asked = critical_search(g, fluid);
+    question->T = asked.first;
+    question->P = asked.second;
+    question->c = fluid->top;
+    question->lent_G = question->lent_L = PLACES;
+}
+
 void next_list_question(struct generator *g, struct list_question *question)
 {
     question->call = below(g, LIST_CALLS);
     question->fluid = fluid_number(g);
     const struct fluid *fluid = drawn_for(g, question->fluid);
-    if (below(g, 2) == 0)
-        ask_anything(g, question, fluid);
-    else
+    switch (below(g, 5)) {
+    case 0:
+        ask_critical(g, question, fluid);
+        break;
+    case 1:
+    case 2:
         ask_permitted(g, question, fluid);
+        break;
+    default:
+        ask_anything(g, question, fluid);
+    }
     hold_something(g, question, fluid);
 }

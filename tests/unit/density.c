@@ -122,13 +122,13 @@ static bool at_neighbours(const struct fluid *f, double T, double P, double rho)
            && property_at(f, PRESSURE, T, rho + 0x1p-30).value > P;
 }
 
-static void check_isotherm(const struct fluid *f, double T, enum word from_below, enum word from_above)
+static void check_isotherm(const struct fluid *f, double T)
 {
     static struct own_lists own;
     struct lists lists = lent(&own, f->top + 1, f->top + 1);
     check(prepare(f, T, f->top, lists) == ANSWERED, "%s: %g K is prepared", f->name, T);
     check(greatest_and_least(f, &own, T), "%s: G and L of %g K are the greatest and the least", f->name, T);
-    unsigned differing = 0, off = 0, other_word = 0;
+    unsigned differing = 0, off = 0, fluids = 0;
     for (int i = 0; i < 200; i++) {
         enum side side = i % 2 ? ABOVE : BELOW;
         double P = f->P.greatest / 100 * (i / 2 + 1);
@@ -136,11 +136,11 @@ static void check_isotherm(const struct fluid *f, double T, enum word from_below
         struct found plain = plain_density(f, T, P, f->top, side);
         differing += !same_found(quick, plain);
         off += plain.code != ANSWERED || !at_neighbours(f, T, P, plain.rho);
-        other_word += plain.word != (side == BELOW ? from_below : from_above);
+        fluids += plain.word == FLUID;
     }
     check(differing == 0, "%s, %g K: quick is plain, %u of 200 differ", f->name, T, differing);
     check(off == 0, "%s, %g K: %u of 200 densities are not at neighbours", f->name, T, off);
-    check(other_word == 0, "%s, %g K: %u of 200 words are others", f->name, T, other_word);
+    check(fluids == (T >= f->Tc ? 200 : 0), "%s, %g K: %u of 200 words are fluid", f->name, T, fluids);
 }
 
 /* The pressure of a printed row gives its density back. */
@@ -168,15 +168,55 @@ static void check_searches_of(const struct fluid *f)
     check_preparation_refusals(f);
     check_quick_refusals(f);
     check_vapour(f);
-    check_isotherm(f, f->T.least, VAPOUR, LIQUID);
-    check_isotherm(f, 400, VAPOUR, LIQUID);
-    check_isotherm(f, nextafter(f->Tc, 0), VAPOUR, LIQUID);
-    check_isotherm(f, f->Tc, FLUID, FLUID);
-    check_isotherm(f, f->T.greatest, FLUID, FLUID);
+    check_isotherm(f, f->T.least);
+    check_isotherm(f, 400);
+    check_isotherm(f, nextafter(f->Tc, 0));
+    check_isotherm(f, f->Tc);
+    check_isotherm(f, nextafter(f->Tc, INFINITY));
+    check_isotherm(f, f->T.greatest);
+}
+
+/* A state, and the word that it is known by. */
+struct named_state {
+    const struct fluid *fluid;
+    double T, P;
+    enum side side;
+    double least_rho, greatest_rho;
+    enum word word;
+};
+
+static const struct named_state named_states[] = {
+    { &r245ca, 300, 1e5, BELOW, 0.04, 0.05, VAPOUR },
+    { &r245ca, 300, 1e5, ABOVE, 10.3, 10.4, LIQUID },
+    /* above saturation, and still searched from below; below it, and searched from above */
+    { &r245ca, 300, 1e6, BELOW, 10.3, 10.4, LIQUID },
+    { &r245ca, 440, 1e6, ABOVE, 0.3, 0.31, VAPOUR },
+    { &r245fa, 300, 1e6, BELOW, 9.9, 10, LIQUID },
+    { &r245fa, 400, 5e5, ABOVE, 0.16, 0.17, VAPOUR },
+    /* between the two critical temperatures */
+    { &r245ca, 430, 1e6, BELOW, 0.3, 0.33, VAPOUR },
+    { &r245fa, 430, 1e6, BELOW, 0.3, 0.33, FLUID },
+    /* just below Tc, within 1e-4 of the critical density; then at R-245fa's */
+    { &r245ca, 0x1.bf91eb851a6cdp+8, 0x1.e10c23e8d30dcp+21, BELOW, 3.9199, 3.92, VAPOUR },
+    { &r245ca, 0x1.bf91eb851a6cdp+8, 0x1.e10c23e8d30dcp+21, ABOVE, 3.9199, 3.92, VAPOUR },
+    { &r245ca, 0x1.bf91eb7457c0bp+8, 0x1.e10c235dad89p+21, BELOW, 3.92, 3.9201, LIQUID },
+    { &r245ca, 0x1.bf91eb7457c0bp+8, 0x1.e10c235dad89p+21, ABOVE, 3.92, 3.9201, LIQUID },
+    { &r245fa, 0x1.ab028f5c18865p+8, 0x1.bdad9db5c7dfcp+21, BELOW, 3.875, 3.875, LIQUID },
+    { &r245fa, 0x1.ab028f5c18865p+8, 0x1.bdad9db5c7dfcp+21, ABOVE, 3.875, 3.875, LIQUID },
+};
+
+static void check_named(const struct named_state *s)
+{
+    struct found found = plain_density(s->fluid, s->T, s->P, s->fluid->top, s->side);
+    check(s->least_rho <= found.rho && found.rho <= s->greatest_rho && found.word == s->word,
+          "%s: %g K, %g Pa %s: %.10g, word %d", s->fluid->name, s->T, s->P,
+          s->side == BELOW ? "from below" : "from above", found.rho, found.word);
 }
 
 void check_density(void)
 {
+    for (size_t i = 0; i < sizeof named_states / sizeof *named_states; i++)
+        check_named(&named_states[i]);
     for (uint64_t i = 0; i < FLUIDS; i++)
         check_searches_of(fluid_numbered(i));
     /* 003, Table 3, and 001, Table 7 */

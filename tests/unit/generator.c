@@ -31,7 +31,7 @@ static uint64_t code_of(struct question question)
     double T = number_of(question.first), P = number_of(question.second);
     const struct call *call = known_call(question.call);
     const struct fluid *fluid = fluid_asked(question.call);
-    if (call != NULL && fluid != NULL && (call->family == PLAIN_SEARCH || call->family == QUICK_SEARCH))
+    if (call != NULL && fluid != NULL && call->family >= PLAIN_SEARCH)
         return plain_density(fluid, T, P, 0, BELOW).code;
     return answer_question(question.call, question.first, question.second).code;
 }
@@ -122,6 +122,31 @@ static void check_codes(uint64_t number)
     check_met(&met, REFUSED_NOT_A_NUMBER);
 }
 
+/* The word's questions meet each word, and below Tc densities close to the critical one on both sides of it. */
+static void check_words_met(uint64_t number)
+{
+    enum { ASKED = 500 };
+    const struct call *call = known_call(number);
+    const struct fluid *f = fluid_asked(number);
+    struct generator g = generator_of(number, &number, 1);
+    unsigned of_word[LIQUID + 1] = { 0 }, close_vapours = 0, close_liquids = 0;
+    for (int i = 0; i < ASKED; i++) {
+        struct question question = next_question(&g);
+        struct found found
+            = plain_density(f, number_of(question.first), number_of(question.second), f->top, call->which);
+        bool close = fabs(found.rho - f->rhoc) < 0.01;
+        of_word[found.word]++;
+        close_vapours += found.word == VAPOUR && close;
+        close_liquids += found.word == LIQUID && close;
+    }
+    for (enum word word = FLUID; word <= LIQUID; word++)
+        check(of_word[word] >= EACH_AT_LEAST, "number %" PRIu64 ": word %d is met by %u of %d random questions",
+              number, word, of_word[word], ASKED);
+    check(close_vapours >= EACH_AT_LEAST && close_liquids >= EACH_AT_LEAST,
+          "number %" PRIu64 ": %u vapours and %u liquids of %d close to the critical density", number,
+          close_vapours, close_liquids, ASKED);
+}
+
 /* A fluid whose number becomes a known one where it is cut to 32 bits. */
 static bool cut_to_known(uint64_t number)
 {
@@ -185,6 +210,9 @@ void check_generator(void)
     struct numbers all = known_numbers();
     check_mixed();
     check_unknown_numbers();
-    for (size_t i = 0; i < all.count; i++)
+    for (size_t i = 0; i < all.count; i++) {
         check_codes(all.number[i]);
+        if (known_call(all.number[i])->family == PLAIN_WORD)
+            check_words_met(all.number[i]);
+    }
 }

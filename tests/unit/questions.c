@@ -69,6 +69,24 @@ static void check_searches_at(const struct fluid *f, int from, double T)
     check(gives(plain(f, T, P, ABOVE), asked(from + 33, T, P)), "number %d at %g K", from + 33, T);
 }
 
+static bool says(uint64_t word, struct answer answer)
+{
+    return answer.code == ANSWERED && answer.bits == word;
+}
+
+/* 1 fluid, 2 vapour, 3 liquid: by the density, whichever side it was searched from. */
+static void check_words(const struct fluid *f, int from)
+{
+    check(says(2, asked(from + 34, 300, 1e5)), "number %d at 300 K, 0.1 MPa: vapour", from + 34);
+    check(says(3, asked(from + 35, 300, 1e5)), "number %d at 300 K, 0.1 MPa: liquid", from + 35);
+    check(says(3, asked(from + 34, 300, 1e6)), "number %d at 300 K, 1 MPa: liquid", from + 34);
+    check(says(2, asked(from + 35, f->Tc - 2, 1e6)), "number %d 2 K below Tc, 1 MPa: vapour", from + 35);
+    check(says(1, asked(from + 34, f->Tc, 1e6)), "number %d at Tc: fluid", from + 34);
+    check(says(1, asked(from + 35, f->Tc, 1e6)), "number %d at Tc: fluid", from + 35);
+    check(refuses(2, asked(from + 34, NAN, 0)), "number %d of NaN gets 2", from + 34);
+    check(refuses(5, asked(from + 35, 300, 0.5)), "number %d at P 0.5 gets 5", from + 35);
+}
+
 /* The kept preparation must go when T changes or the fluid does, and come back. */
 static void check_searches(void)
 {
@@ -103,7 +121,7 @@ static void check_own_limits(void)
 
 /* The probe's calls, apart from the table that answers; 1 to 3 are of no fluid. */
 static const uint64_t calls[] = { 1,  2,  3,  10, 11, 12, 13, 14, 15, 16,
-                                  17, 18, 20, 21, 22, 30, 31, 32, 33 };
+                                  17, 18, 20, 21, 22, 30, 31, 32, 33, 34, 35 };
 
 enum { CALLS = sizeof calls / sizeof *calls, OF_NO_FLUID = 3, SMALL_NUMBERS = 1000 };
 
@@ -144,10 +162,11 @@ static void check_numbers(void)
         { 99, 14 },
         { 101, 14 },
         { 103, 14 },
-        { 134, 14 },
+        { 136, 14 },
         { 199, 14 },
         { 210, 17 },
         { 233, 17 },
+        { 234, 17 },
         { 299, 14 },
         { 300, 14 },
         { 9910, 17 },
@@ -189,6 +208,8 @@ void check_questions(void)
     for (int k = 0; k < ASKED_FLUIDS; k++)
         check_properties(asked_fluids[k].fluid, asked_fluids[k].numbers_from);
     check_searches();
+    for (int k = 0; k < ASKED_FLUIDS; k++)
+        check_words(asked_fluids[k].fluid, asked_fluids[k].numbers_from);
     check_own_limits();
     check_known();
     check_numbers();

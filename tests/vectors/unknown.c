@@ -16,7 +16,7 @@ static void ask_no_calls(struct sheet *sheet)
         19,
         23,
         29,
-        34,
+        36,
         99,
         101,
         102,
@@ -24,7 +24,7 @@ static void ask_no_calls(struct sheet *sheet)
         109,
         119,
         123,
-        134,
+        136,
         199,
         299,
         (uint64_t)1 << 8 | 10,
@@ -52,6 +52,7 @@ static void ask_no_fluids(struct sheet *sheet)
         ask_number(sheet, from + 10);
         ask_number(sheet, from + 20);
         ask_number(sheet, from + 33);
+        ask_number(sheet, from + 35);
         ask_number(sheet, from + 99);
         ask(sheet, from + 18, 0x7ff8000000000000, 0x7ff8000000000000);
     }

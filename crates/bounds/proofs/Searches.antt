@@ -137,15 +137,15 @@ module _ (F : Fluid) where
     from-below-exactly = refuses-exactly F t P c ok all-numbers
 
   -- ---- a search at permitted inputs, by what its place is
-  state-found : (t : Float) (side : Side) (x : Located) → HasStep x → (density : Float) × (word : Word) × (foundStateOf F t side x ≡ State density word)
+  state-found : (t : Float) (x : Located) → HasStep x → (density : Float) × (word : Word) × (foundStateOf F t x ≡ State density word)
   unfolding foundStateOf
-  state-found t side x (k, e) = (stepDensityOf k, stateWordOf F t side, rw e)
+  state-found t x (k, e) = (stepDensityOf k, stateWordOf F t (stepDensityOf k), rw e)
 
   -- the inputs refuse with none but 2, 3, 5, 6 and 7, so 8 comes from permitted inputs alone
   eight-permitted : (t P : Float) (c : ℕ) (side : Side) → plainOf F t P c side ≡ Found.Refused NoCell → searchPermit F t P c true ≡ Granted
   unfolding plainOf searchPermit
   eight-permitted t P c side r =
-      searched-refuses F (searchPermit F t P c true) t side (plainStepOf side (pressuresOf F t) P c) NoCell r
+      searched-refuses F (searchPermit F t P c true) t (plainStepOf side (pressuresOf F t) P c) NoCell r
       (λ i. absurd (never-denied NoCell (searchTests F t P c true) tt i)) (λ ok x. ok)
 
   module _ (t P : Float) (c : ℕ) (ok : searchPermit F t P c true ≡ Granted) where
@@ -182,7 +182,7 @@ module _ (F : Fluid) where
 
     pub density-found : lt P (pressuresOf F t (endStep c)) ≡ true → (side : Side) → (density : Float) × (word : Word) × (plainOf F t P c side ≡ State density word)
     unfolding plainOf
-    density-found top side = rw ok (state-found t side (plainStepOf side (pressuresOf F t) P c) (place-found top side))
+    density-found top side = rw ok (state-found t (plainStepOf side (pressuresOf F t) P c) (place-found top side))
 
   -- ---- whatever the numbers are
   module _ (t P : Float) (c : ℕ) (side : Side) where
@@ -190,7 +190,7 @@ module _ (F : Fluid) where
     pub plain-never-12 : plainOf F t P c side ≡ Found.Refused WorkNotFinite → ⊥
     unfolding plainOf searchPermit
     plain-never-12 r =
-        searched-refuses F (searchPermit F t P c true) t side (plainStepOf side (pressuresOf F t) P c) WorkNotFinite r
+        searched-refuses F (searchPermit F t P c true) t (plainStepOf side (pressuresOf F t) P c) WorkNotFinite r
         (never-denied WorkNotFinite (searchTests F t P c true) tt) (λ ok x. other-code tt (place-refuses t P c ok side WorkNotFinite x))
 
     -- nor does the quick one, whatever its lists hold
@@ -198,17 +198,17 @@ module _ (F : Fluid) where
     unfolding quickOf searchPermit
     quick-never-12 g l r =
         let room = roomOf c (length g) (length l) in
-        searched-refuses F (searchPermit F t P c room) t side (quickStep (entriesBy side g l) (pressuresOf F t) P c) WorkNotFinite r
+        searched-refuses F (searchPermit F t P c room) t (quickStep (entriesBy side g l) (pressuresOf F t) P c) WorkNotFinite r
         (never-denied WorkNotFinite (searchTests F t P c room) tt)
         (λ ok x.
         let passed = search-passed F t P c room ok in
         quick-not-12 (entriesBy side g l) (pressuresOf F t) P c (question F t P c room ok (keptOf F t) (kept-fluid F t) .some-cell) (numbers t (passed .1 .0) c (passed .1 .1 .1 .0)) x)
 
   -- ---- an answered density encloses P, with no proviso for the side from below
-  pub plain-encloses : (t P : Float) (c : ℕ) (side : Side) (density : Float) (word : Word) → plainOf F t P c side ≡ State density word → Answers F t P c side density word
+  pub plain-encloses : (t P : Float) (c : ℕ) (side : Side) (density : Float) (word : Word) → plainOf F t P c side ≡ State density word → Answers F t P c density word
   unfolding plainOf
   plain-encloses t P c FromBelow density word e =
-      let (ok, at) = answered-at F (searchPermit F t P c true) t FromBelow (plainStepOf FromBelow (pressuresOf F t) P c) density word e in
+      let (ok, at) = answered-at F (searchPermit F t P c true) t (plainStepOf FromBelow (pressuresOf F t) P c) density word e in
       plain-from-below-encloses F t P c density word (number-at-zero t (search-passed F t P c true ok .1 .0)) e
   plain-encloses t P c FromAbove density word e = plain-from-above-encloses F t P c density word e
 

@@ -107,7 +107,7 @@ pub record SearchCalls (F : Fluid) : Type 0 where
   -- and permitted inputs meet no other refusal
   pub only-8 : (t P : Float) (c : ℕ) (side : Side) → searchPermit F t P c true ≡ Granted → (e : Refusal) → plainOf F t P c side ≡ Found.Refused e → e ≡ NoCell
   -- an answered density encloses P
-  pub encloses : (t P : Float) (c : ℕ) (side : Side) (density : Float) (word : Word) → plainOf F t P c side ≡ State density word → Answers F t P c side density word
+  pub encloses : (t P : Float) (c : ℕ) (side : Side) (density : Float) (word : Word) → plainOf F t P c side ≡ State density word → Answers F t P c density word
   -- up to the fluid's own top every permitted T and P gets a density, from either side
   pub answered : (t P : Float) (side : Side) → searchPermit F t P (entryOf F .topCells) true ≡ Granted → (density : Float) × (word : Word) × (plainOf F t P (entryOf F .topCells) side ≡ State density word)
 

@@ -5,14 +5,13 @@ use lib.Ieee.{Float}
 use Rattle.fluids.specs.declared.Fluid.{Fluid}
 use Rattle.search.specs.Plain.{endStep}
 use Rattle.search.specs.Enclosed.{Encloses}
-use Rattle.search.specs.declared.Side.{Side}
 use Rattle.search.specs.declared.Word.{Word}
 use Rattle.density.specs.State.{stateWordOf}
 use Rattle.steps.specs.Steps.{stepDensityOf}
 use Rattle.steps.specs.Steps.{pressuresOf}
 
-pub record Answers (F : Fluid) (t P : Float) (c : ℕ) (side : Side) (density : Float) (word : Word) : Type 0 where
+pub record Answers (F : Fluid) (t P : Float) (c : ℕ) (density : Float) (word : Word) : Type 0 where
   pub step : ℕ
   pub exact : density ≡ stepDensityOf step
-  pub named : word ≡ stateWordOf F t side
+  pub named : word ≡ stateWordOf F t density
   pub encloses : Encloses (pressuresOf F t) P (endStep c) step

@@ -39,7 +39,8 @@ pub fn found_answer(found: Found) -> Answer
     }
 }
 
-fn word_number(word: Word) -> u64
+// 1 fluid, 2 vapour, 3 liquid.
+pub fn word_number(word: Word) -> u64
     ensures { λ r. ⌜ r ≡ wordNumberOf word ⌝ }
 {
     match word {

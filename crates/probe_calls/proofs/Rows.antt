@@ -4,10 +4,9 @@ use mathlib.Core.List.{List, [], _∷_}
 use Prim.Native.Nat.{ℕ}
 use borrow.Author.Tests.{eq-eqb, ne-eqb}
 use lib.Ieee.{Float}
-use Rattle.refusals.specs.declared.Answer.{Answer}
 use Rattle.probe_calls.specs.Calls.{lookUp, answerOfNumbers}
 
-module _ (n m : ℕ) (a : Answer) (rows : List (ℕ × Answer)) (other : Answer) where
+module _ {A : Type 0} (n m : ℕ) (a : A) (rows : List (ℕ × A)) (other : A) where
   pub found : n ≡ m → lookUp n ((m, a) ∷ rows) other ≡ a
   unfolding lookUp
   found p = rw (eq-eqb n m p)
@@ -16,7 +15,7 @@ module _ (n m : ℕ) (a : Answer) (rows : List (ℕ × Answer)) (other : Answer)
   unfolding lookUp
   passed-over p = rw (ne-eqb n m p)
 
-pub none : (n : ℕ) (other : Answer) → lookUp n [] other ≡ other
+pub none : {A : Type 0} (n : ℕ) (other : A) → lookUp n [] other ≡ other
 unfolding lookUp
 none n other = refl
 

@@ -65,7 +65,7 @@ elementaryCalls x = (1, exponentialOf x) ∷ (2, logarithmOf x) ∷ (3, squareRo
 -- ---- the call of a number
 
 -- what the list has under the number n, and `other` where it has nothing
-unfoldable pub lookUp : ℕ → List (ℕ × Answer) → Answer → Answer
+unfoldable pub lookUp : {A : Type 0} → ℕ → List (ℕ × A) → A → A
 lookUp n [] other = other
 lookUp n (row ∷ rows) other = cond (eqb n (row .0)) (row .1) (lookUp n rows other)
 

@@ -49,9 +49,6 @@ unfolding quickAnswer
 quick-served (Known F) T P side G L s = ap foundAnswerOf (s .alike P side)
 quick-served Unknown T P side G L s = refl
 
-pub quick-at : (named asked : Named) (side : Side) (a x b y : Float) → named ≡ asked → a ≡ x → b ≡ y → quickAnswer named side a b ≡ quickAnswer asked side x y
-quick-at named asked side a x b y e p q = cc
-
 -- what is served does not depend on how the fluid and the temperature are written
 pub serves-named : (named asked : Named) (T x : Float) (G L : List Float) → named ≡ asked → x ≡ T → ServesNamed asked T G L → ServesNamed named x G L
 serves-named named asked T x G L e p s = rw (e, p) s

@@ -1,4 +1,4 @@
--- A question is a call's number and the bits of two numbers; its answer is that of the call, and 14 where no call has the
+-- A question is a call's number and the bits of two numbers; it is replied as the call answers, and 14 where no call has the
 -- number.
 use mathlib.Core.List.{List, [], _∷_}
 use Prim.Native.Nat.{ℕ, _/_, _%_}
@@ -14,6 +14,8 @@ use Rattle.density.specs.Calls.{quickOf}
 use Rattle.density.specs.Serving.{greatestAt, leastAt}
 use Rattle.outcomes.specs.Codes.{foundAnswerOf}
 use Rattle.probe_calls.specs.Calls.{lookUp, answerOfNumbers}
+use Rattle.probe_words.specs.declared.Reply.{Reply}
+use Rattle.probe_words.specs.Reply.{numberReply, plainWord}
 
 -- the quick search up to the own top of the fluid that is named, over the lists that a preparation at T leaves; 17 where none is
 unfoldable pub quickAnswer : Named → Side → Float → Float → Answer
@@ -30,3 +32,13 @@ unfoldable pub answerTo : ℕ → ℕ → ℕ → Answer
 answerTo call first second =
     lookUp (call % 100) (listCalls (fluidNumbered (call / 100)) (ofBits binary64 first) (ofBits binary64 second))
     (answerOfNumbers call (ofBits binary64 first) (ofBits binary64 second))
+
+-- the calls for the word of a search
+abbrev pub wordCalls : Named → Float → Float → List (ℕ × Reply)
+wordCalls named x y = (34, plainWord named FromBelow x y) ∷ (35, plainWord named FromAbove x y) ∷ []
+
+-- those for a word, then those for a number
+unfoldable pub replyTo : ℕ → ℕ → ℕ → Reply
+replyTo call first second =
+    lookUp (call % 100) (wordCalls (fluidNumbered (call / 100)) (ofBits binary64 first) (ofBits binary64 second))
+    (numberReply (answerTo call first second))

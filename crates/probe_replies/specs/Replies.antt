@@ -4,31 +4,35 @@ use mathlib.Core.List.{List, [], _++_}
 use Prim.Native.Nat.{ℕ, zero, suc, _+_, _-_, _*_, _/_, _^_, min}
 use lib.Dec.{leb}
 use lib.ListN.{length, drop}
-use lib.Ieee.{binary64, toBits}
 use Rattle.refusals.specs.declared.Refusal.the-variants.{CutShort}
-use Rattle.refusals.specs.declared.Answer.{Answer}
-use Rattle.refusals.specs.declared.Answer.the-variants.{Number, Refused}
-use Rattle.refusals.specs.Code.{answerCodeOf}
+use Rattle.refusals.specs.Code.{codeOf}
 use Rattle.words.specs.Word.{wordOf, bytesOf}
-use Rattle.probe_replies.specs.Question.{answerTo}
+use Rattle.probe_words.specs.declared.Reply.{Reply}
+use Rattle.probe_words.specs.declared.Reply.the-variants.{Holds, Refused}
+use Rattle.probe_replies.specs.Question.{replyTo}
 
--- the number's bits, and all ones where refused
-abbrev pub answerBits : Answer → ℕ
-answerBits (Number x) = toBits binary64 x
-answerBits (Refused r) = 2 ^ 64 - 1
+-- 0, or the refusal's number
+abbrev pub replyCode : Reply → ℕ
+replyCode (Holds second) = 0
+replyCode (Refused r) = codeOf r
 
--- the code, then the bits
-unfoldable pub replyBytes : Answer → List ℕ
-replyBytes a = bytesOf (answerCodeOf a) ++ bytesOf (answerBits a)
+-- the second word, and all ones where refused
+abbrev pub replySecond : Reply → ℕ
+replySecond (Holds second) = second
+replySecond (Refused r) = 2 ^ 64 - 1
 
--- the answer to the question at the front of s, and 15 where s is shorter than a question
-unfoldable pub answerAt : List ℕ → Answer
-answerAt s = cond (leb 24 (length s)) (answerTo (wordOf s) (wordOf (drop 8 s)) (wordOf (drop 16 s))) (Refused CutShort)
+-- the code, then the second word
+unfoldable pub replyBytes : Reply → List ℕ
+replyBytes r = bytesOf (replyCode r) ++ bytesOf (replySecond r)
+
+-- the reply to the question at the front of s, and 15 where s is shorter than a question
+unfoldable pub replyAt : List ℕ → Reply
+replyAt s = cond (leb 24 (length s)) (replyTo (wordOf s) (wordOf (drop 8 s)) (wordOf (drop 16 s))) (Refused CutShort)
 
 -- the replies to the first k questions of s
 unfoldable pub repliesOf : List ℕ → ℕ → List ℕ
 repliesOf s zero = []
-repliesOf s (suc k) = repliesOf s k ++ replyBytes (answerAt (drop (24 * k) s))
+repliesOf s (suc k) = repliesOf s k ++ replyBytes (replyAt (drop (24 * k) s))
 
 -- how many replies there are: one for each question, the short piece at the end counted, as long as there is room
 unfoldable pub replyCount : List ℕ → List ℕ → ℕ

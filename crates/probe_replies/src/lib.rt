@@ -1,21 +1,23 @@
 // The questions of the program probe and their replies. The package's public calls are asked, of the fluid that the call's number names.
 //
 // A question is three little-endian words: the call's number and the bits of two numbers. A reply is
-// two: the code, and the number's bits, or all ones where refused.
+// two: the code, and the number's bits or a search's word as a number, or all ones where refused.
 mod searches;
 
 use probe_calls::answer_of_numbers;
 use probe_calls::fluid_number;
+use probe_words::Reply;
+use probe_words::asked_word;
+use probe_words::number_reply;
 use refusals::Answer;
 use refusals::Refusal;
-use refusals::answer_code;
+use refusals::code;
 use search::Side;
 use searches::Isotherm;
 use searches::NO_FLUID;
 use searches::places;
 use searches::prepare_for;
 use searches::quick_answer;
-use words::bits;
 use words::number;
 use words::put_word;
 use words::word;
@@ -23,9 +25,9 @@ ghost use mathlib.Core.Path.{_≡_};
 ghost use mathlib.Core.List.{_++_};
 ghost use Prim.Native.Nat.{_*_, _≤_};
 ghost use lib.ListN.{length, drop};
-ghost use Rattle.probe_replies.specs.Question.{answerTo};
+ghost use Rattle.probe_replies.specs.Question.{answerTo, replyTo};
 ghost use Rattle.probe_replies.specs.Serving.{KeptFor, ServesCall, ServesNext, NextServed, Places};
-ghost use Rattle.probe_replies.specs.Replies.{answerBits, replyBytes, answerAt, replyCount, withReplies};
+ghost use Rattle.probe_replies.specs.Replies.{replyCode, replySecond, replyBytes, replyAt, replyCount, withReplies};
 
 // The answer of the call of that number at the numbers of the two bit patterns, over lists that serve it.
 fn answer_over(call: u64, first: u64, second: u64, greatest: &[f64], least: &[f64]) -> Answer
@@ -45,37 +47,56 @@ fn answer_over(call: u64, first: u64, second: u64, greatest: &[f64], least: &[f6
     answer_of_numbers(call, x, y)
 }
 
-// Prepares the lists if the call is over lists, and answers.
-fn answer_fresh(
-    call: u64,
-    first: u64,
-    second: u64,
-    greatest: &mut [f64],
-    least: &mut [f64],
-) -> Answer
-    requires { ⌜ Places (now greatest) (now least) ⌝ }
-    ensures { λ r. ⌜ r ≡ answerTo call first second ⌝ }
+// The reply of the call of that number: the word of a search, or the number that it answers with.
+fn reply_over(call: u64, first: u64, second: u64, greatest: &[f64], least: &[f64]) -> Reply
+    requires { ⌜ ServesCall call first (now greatest) (now least) ⌝ }
+    ensures { λ r. ⌜ r ≡ replyTo call first second ⌝ }
 {
-    let kept = prepare_for(call, first, NO_FLUID, greatest, least);
-    answer_over(call, first, second, greatest, least)
+    let which = call % 100;
+    if which == 34 {
+        return asked_word(call, first, second, Side::FromBelow);
+    }
+    if which == 35 {
+        return asked_word(call, first, second, Side::FromAbove);
+    }
+    number_reply(answer_over(call, first, second, greatest, least))
 }
 
-// The answer of the call of that number at the numbers of the two bit patterns.
-pub fn answer_to(call: u64, first: u64, second: u64) -> Answer
-    ensures { λ r. ⌜ r ≡ answerTo call first second ⌝ }
+// Prepares the lists if the call is over lists, and replies.
+fn reply_fresh(call: u64, first: u64, second: u64, greatest: &mut [f64], least: &mut [f64]) -> Reply
+    requires { ⌜ Places (now greatest) (now least) ⌝ }
+    ensures { λ r. ⌜ r ≡ replyTo call first second ⌝ }
+{
+    let kept = prepare_for(call, first, NO_FLUID, greatest, least);
+    reply_over(call, first, second, greatest, least)
+}
+
+// The reply of the call of that number at the numbers of the two bit patterns.
+pub fn reply_to(call: u64, first: u64, second: u64) -> Reply
+    ensures { λ r. ⌜ r ≡ replyTo call first second ⌝ }
 {
     let mut greatest = places();
     let mut least = places();
-    answer_fresh(call, first, second, &mut greatest, &mut least)
+    reply_fresh(call, first, second, &mut greatest, &mut least)
 }
 
-// The number's bits, and all ones where refused.
-fn answer_bits(a: Answer) -> u64
-    ensures { λ r. ⌜ r ≡ answerBits a ⌝ }
+// 0, or the refusal's number.
+fn reply_code(reply: Reply) -> u32
+    ensures { λ r. ⌜ r ≡ replyCode reply ⌝ }
 {
-    match a {
-        Answer::Number(x) => bits(x),
-        Answer::Refused(_) => 18446744073709551615,
+    match reply {
+        Reply::Holds(_) => 0,
+        Reply::Refused(r) => code(r),
+    }
+}
+
+// The second word, and all ones where refused.
+fn reply_second(reply: Reply) -> u64
+    ensures { λ r. ⌜ r ≡ replySecond reply ⌝ }
+{
+    match reply {
+        Reply::Holds(second) => second,
+        Reply::Refused(_) => 18446744073709551615,
     }
 }
 
@@ -93,28 +114,28 @@ fn prepare_next(next: &[u8], kept: Isotherm, greatest: &mut [f64], least: &mut [
     prepare_for(call, first, kept, greatest, least)
 }
 
-// The answer to the question at the front of s, over lists that serve it; 15 where s is shorter than a question.
-fn answer_at(s: &[u8], greatest: &[f64], least: &[f64]) -> Answer
+// The reply to the question at the front of s, over lists that serve it; 15 where s is shorter than a question.
+fn reply_at(s: &[u8], greatest: &[f64], least: &[f64]) -> Reply
     requires { ⌜ ServesNext (now s) (now greatest) (now least) ⌝ }
-    ensures { λ r. ⌜ r ≡ answerAt (now (s .entry)) ⌝ }
+    ensures { λ r. ⌜ r ≡ replyAt (now (s .entry)) ⌝ }
 {
     if s.len() < 24 {
-        return Answer::Refused(Refusal::CutShort);
+        return Reply::Refused(Refusal::CutShort);
     }
     let call = word(s);
     let first = word(&s[8..]);
     let second = word(&s[16..]);
-    answer_over(call, first, second, greatest, least)
+    reply_over(call, first, second, greatest, least)
 }
 
 // The reply's bytes into the first 16 places.
-fn put_reply(out: &mut [u8], a: Answer)
+fn put_reply(out: &mut [u8], reply: Reply)
     requires { ⌜ 16 ≤ length (now out) ⌝ }
-    ensures { λ _. ⌜ now (out .exit) ≡ replyBytes a ++ drop 16 (now (out .entry)) ⌝ }
+    ensures { λ _. ⌜ now (out .exit) ≡ replyBytes reply ++ drop 16 (now (out .entry)) ⌝ }
 {
-    let code = answer_code(a) as u64;
+    let code = reply_code(reply) as u64;
     put_word(out, code);
-    put_word(&mut out[8..], answer_bits(a));
+    put_word(&mut out[8..], reply_second(reply));
 }
 
 // The replies, with two lists that are kept while the fluid and the bits of the temperature stay the same.
@@ -132,8 +153,8 @@ fn put_replies_over(input: &[u8], out: &mut [u8], greatest: &mut [f64], least: &
             return to;
         }
         kept = prepare_next(&input[from..], kept, greatest, least);
-        let a = answer_at(&input[from..], greatest, least);
-        put_reply(&mut out[to..], a);
+        let reply = reply_at(&input[from..], greatest, least);
+        put_reply(&mut out[to..], reply);
         k += 1;
     }
     16 * k

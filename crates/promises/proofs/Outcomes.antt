@@ -9,6 +9,8 @@ use Rattle.outcomes.proofs.found_answer.Kinds as found-answer-kinds
 use Rattle.outcomes.proofs.found_answer.Reads as found-answer-reads
 use Rattle.outcomes.proofs.found_bits.Kinds as found-bits-kinds
 use Rattle.outcomes.proofs.found_bits.Reads as found-bits-reads
+use Rattle.outcomes.proofs.word_number.Kinds as word-number-kinds
+use Rattle.outcomes.proofs.word_number.Reads as word-number-reads
 use Rattle.outcomes.proofs.found_word.Kinds as found-word-kinds
 use Rattle.outcomes.proofs.found_word.Reads as found-word-reads
 
@@ -23,6 +25,9 @@ found-answer-one κs a x y e f p q = p ∙ sym q
 
 pub found-bits-one : OneResult _ found-bits-kinds.ps found-bits-kinds.r found-bits-reads.Learnt
 found-bits-one κs a x y e f p q = p ∙ sym q
+
+pub word-number-one : OneResult _ word-number-kinds.ps word-number-kinds.r word-number-reads.Learnt
+word-number-one κs a x y e f p q = p ∙ sym q
 
 pub found-word-one : OneResult _ found-word-kinds.ps found-word-kinds.r found-word-reads.Learnt
 found-word-one κs a x y e f p q = p ∙ sym q

@@ -53,23 +53,23 @@ value-finite nan s n d h = absurd h
 value-finite (inf t) s n d h = absurd h
 value-finite (fin t m e) s n d h = tt
 
-place-finite : (F : Fluid) (T : Float) (side : Side) (x : Located) → StepInside x → HandsOutFinite (foundAnswerOf (foundStateOf F T side x))
+place-finite : (F : Fluid) (T : Float) (x : Located) → StepInside x → HandsOutFinite (foundAnswerOf (foundStateOf F T x))
 unfolding foundStateOf
-place-finite F T side (At k) h = value-finite (stepDensityOf k) _ _ _ (step-exact k h)
-place-finite F T side (Refused r) h = tt
+place-finite F T (At k) h = value-finite (stepDensityOf k) _ _ _ (step-exact k h)
+place-finite F T (Refused r) h = tt
 
 density-finite : (F : Fluid) (T P : Float) (side : Side) → HandsOutFinite (densityAt F T P side)
 unfolding densityAt plainOf
 density-finite F T P side = go (searchPermit F T P (entryOf F .topCells) true) refl
   where
     go : (i : Permit) → searchPermit F T P (entryOf F .topCells) true ≡ i →
-        HandsOutFinite (foundAnswerOf (searched i (foundStateOf F T side (plainStepOf side (pressuresOf F T) P (entryOf F .topCells)))))
+        HandsOutFinite (foundAnswerOf (searched i (foundStateOf F T (plainStepOf side (pressuresOf F T) P (entryOf F .topCells)))))
     go (Denied r) e = tt
     go Granted e =
         let c = entryOf F .topCells in
         let asked = question F T P c true e (keptOf F T) (kept-fluid F T) in
         let p = pressuresOf F T in
-        place-finite F T side (plainStepOf side p P c) (plain-inside p P c (asked .top) side)
+        place-finite F T (plainStepOf side p P c) (plain-inside p P c (asked .top) side)
 
 work-finite : (asked : Question) → HandsOutFinite (workOf asked)
 work-finite (State F T ρ) = pressure-finite F T ρ

@@ -57,7 +57,7 @@ module _ (F : Fluid) (T : Float) where
 
   module _ (P : Float) (side : Side) where
     found : Found
-    found = foundStateOf F T side (plainStepOf side (pressuresOf F T) P (entryOf F .topCells))
+    found = foundStateOf F T (plainStepOf side (pressuresOf F T) P (entryOf F .topCells))
 
     density-is : densityAt F T P side ≡ permitted (inputsOf (Search F T P side)) (foundAnswerOf found)
     unfolding densityAt plainOf found

@@ -1,21 +1,21 @@
 // Answers the questions on standard input and prints each with its answer on a line.
 //
-// The fields of a line: the call, the bits of the two numbers, the code, and the bits of the answer,
-// or dashes where refused.
+// The fields of a line: the call, the bits of the two numbers, the code, and the second word of the
+// reply, or dashes where refused.
 use libc::STDIN_FILENO;
 use libc::STDOUT_FILENO;
-use refusals::Answer;
-use words::bits;
+use probe_words::Reply;
+use refusals::code;
 use words::word;
 ghost use mathlib.Core.Path.{_≡_};
 ghost use Prim.Native.Nat.{_+_, _≤_};
 ghost use lib.ListN.{length};
 
-// Room for 5,460 questions.
-fn question_block() -> [u8; 131040]
-    ensures { λ r. ⌜ 131040 ≡ length r ⌝ }
+// Room for 8,190 questions.
+fn question_block() -> [u8; 196560]
+    ensures { λ r. ⌜ 196560 ≡ length r ⌝ }
 {
-    [0; 131040]
+    [0; 196560]
 }
 
 fn print(text: &[u8]) {
@@ -26,12 +26,16 @@ fn print_bits(w: u64) {
     io::print_hex(STDOUT_FILENO, w, 16);
 }
 
-fn print_answer(a: Answer) {
-    io::print_decimal(STDOUT_FILENO, refusals::answer_code(a) as u64);
-    print(b" ");
-    match a {
-        Answer::Number(x) => print_bits(bits(x)),
-        Answer::Refused(_) => print(b"----------------"),
+fn print_reply(reply: Reply) {
+    match reply {
+        Reply::Holds(second) => {
+            print(b"0 ");
+            print_bits(second);
+        }
+        Reply::Refused(r) => {
+            io::print_decimal(STDOUT_FILENO, code(r) as u64);
+            print(b" ----------------");
+        }
     }
     print(b"\n");
 }
@@ -49,7 +53,7 @@ fn print_line(s: &[u8])
     print(b" ");
     print_bits(second);
     print(b" ");
-    print_answer(probe_replies::answer_to(call, first, second));
+    print_reply(probe_replies::reply_to(call, first, second));
 }
 
 fn print_lines(s: &[u8]) {

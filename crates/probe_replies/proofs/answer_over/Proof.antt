@@ -4,8 +4,9 @@ use mathlib.Core.Path.{_∙_, sym}
 use borrow.Author.Needs.{needs}
 use Rattle.search.specs.declared.Side.the-variants.{FromBelow, FromAbove}
 use Rattle.probe_calls.proofs.Rows.{found, passed-over, none, at-numbers}
-use Rattle.probe_replies.specs.Question.{answerTo}
-use Rattle.probe_replies.proofs.Served.{from-below-is-over, from-above-is-over, quick-at, serves-named}
+use Rattle.probe_calls.proofs.Numbers.{asked-at}
+use Rattle.probe_replies.specs.Question.{quickAnswer, answerTo}
+use Rattle.probe_replies.proofs.Served.{from-below-is-over, from-above-is-over, serves-named}
 use Rattle.probe_replies.proofs.answer_over.Statement.{statement}
 use Rattle.probe_replies.proofs.answer_over.Tie as tie
 
@@ -23,7 +24,7 @@ returns c =
     let fluid = c .before .before in
     let second = fluid .before in
     c .quick-answer .ensures
-    ∙ quick-at _ _ FromBelow _ _ _ _ (fluid .fluid-number .ensures .1) (second .before .number .ensures) (second .number2 .ensures)
+    ∙ asked-at quickAnswer _ _ FromBelow _ _ _ _ (fluid .fluid-number .ensures .1) (second .before .number .ensures) (second .number2 .ensures)
     ∙ sym (found _ _ _ _ _ (c .before .if1 .taken))
 
 quick-answer-requires-2 : tie.Need-quick-answer-requires-2
@@ -41,7 +42,7 @@ returns-2 c =
     let fluid = at33 .before .before in
     let second = fluid .before in
     c .quick-answer2 .ensures
-    ∙ quick-at _ _ FromAbove _ _ _ _ (fluid .fluid-number .ensures .1) (second .before .number .ensures) (second .number2 .ensures)
+    ∙ asked-at quickAnswer _ _ FromAbove _ _ _ _ (fluid .fluid-number .ensures .1) (second .before .number .ensures) (second .number2 .ensures)
     ∙ sym (passed-over _ _ _ _ _ (at33 .before .if1 .left) ∙ found _ _ _ _ _ (at33 .if2 .taken))
 
 returns-3 : tie.Need-returns-3

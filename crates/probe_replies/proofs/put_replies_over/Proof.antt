@@ -37,8 +37,8 @@ returns c = stopped _ _ _ _ (c .before .before .loop .inv .1) (c .before .loop-t
 prepare-next-requires : tie.Need-prepare-next-requires Inv-loop μ-loop
 prepare-next-requires c κs = c .before .before .before .before .before .loop .inv .2
 
-answer-at-requires : tie.Need-answer-at-requires Inv-loop μ-loop
-answer-at-requires c κs = c .before .before .before .before .before .before .before .prepare-next .ensures .1
+reply-at-requires : tie.Need-reply-at-requires Inv-loop μ-loop
+reply-at-requires c κs = c .before .before .before .before .before .before .before .prepare-next .ensures .1
 
 loop-again : tie.Need-loop-again Inv-loop μ-loop
 loop-again c =
@@ -48,7 +48,7 @@ loop-again c =
     let test = prepared .before .before .before .before in
     let at = test .before .before in (
       omega arith,
-      one-more _ _ _ _ _ _ (at .loop .inv .1) (test .if1 .left) (asked .answer-at .ensures) (put .put-reply .ensures),
+      one-more _ _ _ _ _ _ (at .loop .inv .1) (test .if1 .left) (asked .reply-at .ensures) (put .put-reply .ensures),
       prepared .prepare-next .ensures .0,
     )
 
@@ -86,7 +86,7 @@ put-replies-over-spec =
     (λ c. search needs)
     (λ c. search needs)
     (λ c. search needs)
-    answer-at-requires
+    reply-at-requires
     (λ c. search needs)
     (λ c. search needs)
     (λ c. search needs)

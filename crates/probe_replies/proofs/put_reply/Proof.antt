@@ -18,9 +18,9 @@ returns c =
     let start = code .before .before in
     let out = start .args .out .now in
     let a = first .put-word .last .0 in
-    let bits = second .before .answer-bits .ensures in
+    let bits = second .before .reply-second .ensures in
     two-words _ _ out _ _ (start .pre)
-    (first .put-word .ensures ∙ ap (λ (n : ℕ). withWord n out) (code .answer-code .ensures))
+    (first .put-word .ensures ∙ ap (λ (n : ℕ). withWord n out) (code .reply-code .ensures))
     (second .put-word2 .ensures ∙ ap (λ (n : ℕ). withWord n (take (length a - 8) (drop 8 a))) bits)
 
 pub put-reply-spec : {M : Type 1} → statement M
