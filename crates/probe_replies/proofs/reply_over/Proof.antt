@@ -10,11 +10,11 @@ use Rattle.probe_replies.proofs.reply_over.Tie as tie
 
 returns : tie.Need-returns
 unfolding replyTo
-returns c = c .asked-word .ensures ∙ sym (found _ _ _ _ _ (c .before .if1 .taken))
+returns c = c .asked-word .ensures ∙ sym (found _ 34 _ _ _ (c .before .if1 .taken))
 
 returns-2 : tie.Need-returns-2
 unfolding replyTo
-returns-2 c = c .asked-word2 .ensures ∙ sym (passed-over _ _ _ _ _ (c .before .before .if1 .left) ∙ found _ _ _ _ _ (c .before .if2 .taken))
+returns-2 c = c .asked-word2 .ensures ∙ sym (passed-over _ 34 _ _ _ (c .before .before .if1 .left) ∙ found _ 35 _ _ _ (c .before .if2 .taken))
 
 answer-over-requires : tie.Need-answer-over-requires
 answer-over-requires c κs = c .before .before .before .before .pre
@@ -25,7 +25,7 @@ returns-3 c =
     let answered = c .before in
     c .number-reply .ensures
     ∙ ap numberReply (answered .answer-over .ensures)
-    ∙ sym (passed-over _ _ _ _ _ (answered .before .before .if1 .left) ∙ passed-over _ _ _ _ _ (answered .before .if2 .left) ∙ none _ _)
+    ∙ sym (passed-over _ 34 _ _ _ (answered .before .before .if1 .left) ∙ passed-over _ 35 _ _ _ (answered .before .if2 .left) ∙ none _ _)
 
 pub reply-over-spec : {M : Type 1} → statement M
 reply-over-spec =
