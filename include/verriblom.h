@@ -1,6 +1,6 @@
 /*
  * Verriblom: R-245ca and R-245fa, by records: answered one at a time, or a run of them at once; and
- * written.
+ * written. And saturation pairs: found, and judged.
  *
  * A record is 18 bytes: a two-letter mark and two binary64 numbers, the lowest byte first. The
  * mark's first letter says which fluid is asked, T for R-245ca and F for R-245fa; the second says
@@ -26,6 +26,8 @@ extern "C" {
 
 #define VERRIBLOM_RECORD_BYTES 18
 #define VERRIBLOM_NUMBER_BYTES 8
+/* the two densities of a saturation pair */
+#define VERRIBLOM_PAIR_BYTES 16
 /* the most records of one run */
 #define VERRIBLOM_MOST_RECORDS 4096
 
@@ -52,7 +54,7 @@ enum verriblom_kind {
     VERRIBLOM_KIND_NO_READING = 78           /* N */
 };
 
-/* Its fluid, which the mark's first letter says. */
+/* Its fluid, which the mark's first letter says; and that of a saturation pair. */
 enum verriblom_fluid {
     VERRIBLOM_R245CA = 0, /* T */
     VERRIBLOM_R245FA = 1  /* F */
@@ -68,33 +70,44 @@ enum verriblom_fluid {
  *
  * verriblom_answers itself returns 0, 7 or 18, about the run as a whole. verriblom_write returns only
  * 0, 7, 14 or 17, about what it is to write; where several refusals apply the first of 14, 17, 7
- * counts.
+ * counts. verriblom_saturation returns only 0, 2, 3, 7, 13, 17 or 20, and verriblom_accept only 0, 2,
+ * 3, 4, 12, 17 or 19, in the order that stands at each of them; no record meets 13, 19 or 20.
  */
 enum verriblom_code {
     /* the first eight bytes of the output hold the number. Can occur: D, B, A, P. Of a run: each
-     * record has its code. Of writing: the buffer holds the record. Can occur: D, B, A, P, N */
+     * record has its code. Of writing: the buffer holds the record. Can occur: D, B, A, P, N. Of
+     * saturation: the first sixteen bytes of the output hold the pair. Of a proposed pair: it is
+     * accepted */
     VERRIBLOM_ANSWERED = 0,
     /* the record says "no reading". Tested: every record of 18 bytes. Can occur: N */
     VERRIBLOM_NO_READING = 1,
-    /* an input number is NaN or infinite. Tested: D, B, A, P. Can occur: the same */
+    /* an input number is NaN or infinite. Tested: D, B, A, P; saturation; a proposed pair. Can occur:
+     * the same */
     VERRIBLOM_INPUT_NOT_FINITE = 2,
-    /* the temperature is outside the fluid's range. Tested: D, B, A, P. Can occur: the same */
+    /* the temperature is outside the fluid's range. Tested: D, B, A, P; saturation; a proposed pair.
+     * Can occur: the same */
     VERRIBLOM_TEMPERATURE_OUTSIDE = 3,
-    /* the density is outside the fluid's range. Tested: D. Can occur: the same */
+    /* the density is outside the fluid's range. Tested: D; either one of a proposed pair. Can occur:
+     * the same */
     VERRIBLOM_DENSITY_OUTSIDE = 4,
     /* the pressure is outside the fluid's range. Tested: B, A, P. Can occur: the same */
     VERRIBLOM_PRESSURE_OUTSIDE = 5,
     /* the output has less than eight bytes. Tested: D, B, A, P. Can occur: the same, but for the
      * records of a run, each of which has eight. Of a run: the output has less than eight bytes for
      * each record, or the code list less than a place. Of writing: the buffer has less than 18 bytes
-     * from the place on. Tested: D, B, A, P, N, after 14 and 17. Can occur: the same */
+     * from the place on. Tested: D, B, A, P, N, after 14 and 17. Can occur: the same. Of saturation:
+     * the output has less than sixteen bytes. Tested: after 3 and before 13. Can occur: the same */
     VERRIBLOM_OUTPUT_TOO_SHORT = 7,
     /* no cell of the search has the pressure. Tested: B, A, P. Can occur: never */
     VERRIBLOM_NO_CELL = 8,
     /* 23 halvings did not end at neighbours. Tested: B, A, P. Can occur: never */
     VERRIBLOM_NOT_NEIGHBOURS = 9,
-    /* a worked value is not finite. Tested: D, B, A, P. Can occur: never */
+    /* a worked value is not finite. Tested: D, B, A, P; saturation. Can occur: never. Of a proposed
+     * pair: tested where the densities are ordered. Can occur: with a vapour of almost no density */
     VERRIBLOM_WORK_NOT_FINITE = 12,
+    /* the temperature is above the critical one. Tested: saturation, after 7; no record. Can occur:
+     * the same */
+    VERRIBLOM_ABOVE_CRITICAL = 13,
     /* the first two bytes are no mark. Tested: every record of 18 bytes. Can occur: any other mark.
      * Of writing: the kind is none of the five. Tested: every kind, first of all. Can occur: any
      * other kind */
@@ -103,10 +116,16 @@ enum verriblom_code {
     VERRIBLOM_RECORD_CUT_SHORT = 15,
     /* the fluid's number is unknown. Tested: no record, as every known mark names a fluid. Can
      * occur: never. Of writing: it is neither 0 nor 1. Tested: D, B, A, P, N, after 14. Can occur:
-     * the same */
+     * the same. Of saturation and of a proposed pair: the same, tested first */
     VERRIBLOM_UNKNOWN_FLUID = 17,
     /* a run has more than 4,096 records. Tested: every run, after 7; no record. Can occur: such runs */
-    VERRIBLOM_TOO_MANY_RECORDS = 18
+    VERRIBLOM_TOO_MANY_RECORDS = 18,
+    /* a proposed pair is not accepted. Tested: its temperature and the order of its densities after
+     * 4, what is worked of it after 12. Can occur: the same */
+    VERRIBLOM_NOT_ACCEPTED = 19,
+    /* no saturation pair was found. Tested: saturation, last of all. Can occur: at the critical
+     * temperature, and very close below it */
+    VERRIBLOM_GAVE_UP = 20
 };
 
 /*
@@ -154,6 +173,38 @@ uint32_t verriblom_answers(const uint8_t *records, size_t records_len, uint8_t *
  */
 uint32_t verriblom_write(uint32_t kind, uint32_t fluid, uint64_t first, uint64_t second,
                          uint8_t *buffer, size_t buffer_len, size_t place);
+
+/*
+ * The saturation pair of a fluid at the temperature t: the densities of the liquid and of the vapour
+ * that stand beside each other. Returns 0 and puts the bits of the liquid's density and then of the
+ * vapour's, mol/dm3, into the first sixteen bytes of out, the lowest byte of each first; or returns
+ * the refusal's number and leaves out as it was. No byte of out after the sixteenth ever changes.
+ * verriblom_accept accepts what it puts there: it is the first such pair of a sequence of at most 41
+ * that begins with the two estimates (docs/SCOPE.md).
+ *
+ * Returns 17 where fluid is none of enum verriblom_fluid, or else 2 where t is not finite, 3 where it
+ * is outside the fluid's range, 7 where out has less than sixteen bytes, 13 where t is above the
+ * critical temperature, 20 where no pair of the sequence is accepted: so at the critical temperature
+ * itself, and very close below it. 12 is tested as well, and it is proved that it never occurs.
+ *
+ * out points to out_len bytes and is not null, also where its length is 0. The pressure of the pair is
+ * that of a D record at t and either density.
+ */
+uint32_t verriblom_saturation(uint32_t fluid, double t, uint8_t *out, size_t out_len);
+
+/*
+ * Whether a liquid's and a vapour's density, mol/dm3, are a saturation pair of a fluid at the
+ * temperature t, whoever proposes them. Returns 0, and so accepts the pair, exactly if t is below the
+ * critical temperature, 0 < vapour < critical density < liquid, both states are stable (Q > 0), their
+ * pressures differ by at most 0.01 Pa, and their values 1 + I0 + S0 + S1, which is the Gibbs energy
+ * over RT, by at most 1e-9, all in the package's own arithmetic.
+ *
+ * Returns 17 where fluid is none of enum verriblom_fluid, or else 2 where one of the three numbers is
+ * not finite, 3 where t is outside the fluid's range, 4 where a density is, 19 where t is not below
+ * the critical temperature or the densities are not so ordered, 12 where a worked value is not finite,
+ * 19 for the rest.
+ */
+uint32_t verriblom_accept(uint32_t fluid, double t, double liquid, double vapour);
 
 #ifdef __cplusplus
 }

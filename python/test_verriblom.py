@@ -286,8 +286,8 @@ class Names(unittest.TestCase):
     def test_public_names(self):
         given = {}
         exec("from verriblom import *", given)
-        values = {"Fluid", "Mark", "Record", "Refusal", "Refused"}
-        calls = {"answer", "answers", "density", "pressure", "read", "record"}
+        values = {"Fluid", "Mark", "Pair", "Record", "Refusal", "Refused"}
+        calls = {"accept", "answer", "answers", "density", "pressure", "read", "record", "saturation"}
         self.assertEqual(given.keys() - {"__builtins__"}, values | calls)
 
 
@@ -470,6 +470,83 @@ class WritingCall(unittest.TestCase):
             ("N", 1, 17, 7),
         ):
             self.assertEqual(called(ord(kind), fluid, room, 0), (wanted, BEFORE))
+
+
+# An output's bytes before a call, no two alike.
+OUTPUT = bytes(range(64, 104))
+CRITICAL = {Fluid.R245CA: (447.57, 3.92, 13.0), Fluid.R245FA: (427.01, 3.875, 16.0)}
+
+
+def paired(fluid, temperature, room):
+    """The call's code, and the output afterwards, of which so many bytes were lent."""
+    out = ctypes.create_string_buffer(OUTPUT, len(OUTPUT))
+    return verriblom._saturation_call(fluid, temperature, out, room), out.raw
+
+
+class Saturation(unittest.TestCase):
+    def refused(self, refusal, function, *arguments):
+        with self.assertRaises(Refused) as caught:
+            function(*arguments)
+        self.assertEqual(caught.exception.refusal, refusal)
+
+    def test_a_pair_is_accepted_and_is_one_pressure(self):
+        for fluid, (critical, density, _) in CRITICAL.items():
+            for temperature in (200.0, 250.0, 300.5, 400.0, critical - 1.0):
+                liquid, vapour = verriblom.saturation(fluid, temperature)
+                self.assertTrue(0.0 < vapour < density < liquid)
+                self.assertIsNone(verriblom.accept(fluid, temperature, liquid, vapour))
+                pressures = [verriblom.pressure(temperature, rho, fluid=fluid) for rho in (liquid, vapour)]
+                self.assertLessEqual(abs(pressures[0] - pressures[1]), 0.01)
+
+    def test_the_sixteen_bytes_and_no_other(self):
+        for fluid in Fluid:
+            pair = struct.pack("<dd", *verriblom.saturation(fluid, 300.0))
+            for room in range(len(OUTPUT) + 1):
+                wanted = (0, pair + OUTPUT[16:]) if room >= 16 else (7, OUTPUT)
+                self.assertEqual(paired(fluid.number, 300.0, room), wanted)
+
+    def test_refused_temperatures(self):
+        for fluid, (critical, _, _) in CRITICAL.items():
+            self.refused(Refusal.INPUT_NOT_FINITE, verriblom.saturation, fluid, math.nan)
+            self.refused(Refusal.INPUT_NOT_FINITE, verriblom.saturation, fluid, -math.inf)
+            self.refused(Refusal.TEMPERATURE_OUTSIDE, verriblom.saturation, fluid, 100.0)
+            self.refused(Refusal.ABOVE_CRITICAL, verriblom.saturation, fluid, math.nextafter(critical, 500.0))
+            self.refused(Refusal.GAVE_UP, verriblom.saturation, fluid, critical)
+
+    def test_which_refusal_of_saturation_comes_first(self):
+        for fluid, temperature, room, wanted in (
+            (2, math.nan, 0, 17),
+            (0, math.nan, 0, 2),
+            (1, 100.0, 0, 3),
+            (0, 449.0, 15, 7),
+            (0, 449.0, 16, 13),
+            (0, 447.57, 15, 7),
+            (0, 447.57, 16, 20),
+        ):
+            self.assertEqual(paired(fluid, temperature, room), (wanted, OUTPUT))
+
+    def test_proposed_pairs(self):
+        for fluid, (critical, density, greatest) in CRITICAL.items():
+            liquid, vapour = verriblom.saturation(fluid, 300.0)
+            for temperature, proposed, refusal in (
+                (300.0, (math.inf, vapour), 2),
+                (300.0, (liquid, math.nan), 2),
+                (math.nan, (liquid, vapour), 2),
+                (100.0, (liquid, -1.0), 3),
+                (300.0, (liquid, -1.0), 4),
+                (300.0, (math.nextafter(greatest, 20.0), vapour), 4),
+                (300.0, (greatest, vapour), 19),
+                (critical, (liquid, vapour), 19),
+                (300.0, (vapour, liquid), 19),
+                (300.0, (density, vapour), 19),
+                (300.0, (liquid, density), 19),
+                (300.0, (liquid, 0.0), 19),
+                (300.0, (liquid, -0.0), 19),
+                (300.0, (liquid, 1e-300), 12),
+                (300.0, (liquid, vapour * 1.000001), 19),
+            ):
+                self.refused(refusal, verriblom.accept, fluid, temperature, *proposed)
+            self.assertEqual(verriblom._accept_call(2, math.nan, liquid, vapour), 17)
 
 
 def load_tests(loader, tests, pattern):

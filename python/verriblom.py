@@ -1,4 +1,4 @@
-"""R-245ca's and R-245fa's pressure and density by Verriblom's C calls.
+"""R-245ca's and R-245fa's pressure, density and saturation pairs by Verriblom's C calls.
 
 The shared library is `libverriblom.so` beside this file, or the file that the
 environment variable VERRIBLOM_LIBRARY names.
@@ -31,6 +31,17 @@ Record(mark=<Mark.FROM_BELOW: b'TB'>, first=300.0, second=50000.0)
 >>> read(record(Mark.NO_READING))
 Record(mark=<Mark.NO_READING: b'TN'>, first=None, second=None)
 
+A saturation pair is the liquid's and the vapour's density that stand beside each
+other at a temperature. One that somebody else proposes is accepted or refused.
+
+>>> pair = saturation(Fluid.R245FA, 250.0)
+>>> print(f"{pair.liquid:.6f} {pair.vapour:.8f}")
+10.900568 0.00801120
+>>> accept(Fluid.R245FA, 250.0, *pair)
+>>> accept(Fluid.R245FA, 250.0, 10.9, 0.008)
+Traceback (most recent call last):
+verriblom.Refused: 19, NOT_ACCEPTED: the proposed pair is not accepted
+
 Units: K, mol/dm³, Pa. Each fluid has its own ranges, ends included
 (README.md).
 """
@@ -45,7 +56,8 @@ import struct
 import typing
 
 __all__ = [
-    "Fluid", "Mark", "Record", "Refusal", "Refused", "answer", "answers", "density", "pressure", "read", "record"
+    "Fluid", "Mark", "Pair", "Record", "Refusal", "Refused", "accept", "answer", "answers", "density", "pressure", "read",
+    "record", "saturation"
 ]
 
 
@@ -106,43 +118,51 @@ class Refusal(enum.IntEnum):
     meaning: str
 
     # Of each refusal: which records are tested for it, and which ones can meet it, by the mark's second
-    # letter; N has no reading, and both fluids are alike in this. That 8, 9 and 12 never occur, nor any
-    # number that is not here, is proved (docs/NO-ANSWER.md).
+    # letter; N has no reading, and both fluids are alike in this. That 8, 9 and 12 never occur of a record,
+    # nor any number that is not here, is proved (docs/NO-ANSWER.md). And of saturation pairs: "saturation" is
+    # the call that finds one, "accept" the one that judges it.
 
     # tested: every record of 18 bytes; can occur: N
     NO_READING = 1, 'the record says "no reading"'
-    # tested: D, B, A, P; can occur: the same
+    # tested: D, B, A, P; saturation, accept; can occur: the same
     INPUT_NOT_FINITE = 2, "an input number is NaN or infinite"
-    # tested: D, B, A, P; can occur: the same
+    # tested: D, B, A, P; saturation, accept; can occur: the same
     TEMPERATURE_OUTSIDE = 3, "the temperature is outside the fluid's range"
-    # tested: D; can occur: the same
+    # tested: D; accept, of either density; can occur: the same
     DENSITY_OUTSIDE = 4, "the density is outside the fluid's range"
     # tested: B, A, P; can occur: the same
     PRESSURE_OUTSIDE = 5, "the pressure is outside the fluid's range"
     # tested: D, B, A, P, every run, and every record to write; can occur: the same, but never here, where each
-    # record has eight bytes of the output, each one of a run a place for its code, and one to write 18 bytes
+    # record has eight bytes of the output, each one of a run a place for its code, one to write 18 bytes, and a
+    # pair, which is tested as well, sixteen
     OUTPUT_TOO_SHORT = 7, "the output, or a run's code list, is too short"
     # tested: B, A, P; can occur: never
     NO_CELL = 8, "no cell of the search has the pressure"
     # tested: B, A, P; can occur: never
     NOT_NEIGHBOURS = 9, "23 halvings did not end at neighbours"
-    # tested: D, B, A, P; can occur: never
+    # tested: D, B, A, P; saturation; can occur: never; accept: with a vapour of almost no density
     WORK_NOT_FINITE = 12, "a worked value is not finite"
+    # tested: saturation; can occur: the same
+    ABOVE_CRITICAL = 13, "the temperature is above the critical one"
     # tested: every record of 18 bytes, and every one to write; can occur: any other mark, but never in writing
     # here, where a Mark has a known kind
     UNKNOWN_MARK = 14, "the first two bytes are no mark"
     # tested: every record; can occur: any other length
     RECORD_CUT_SHORT = 15, "the record has not exactly 18 bytes"
-    # tested: every record to write; no other, as every known mark names a fluid; can occur: in writing, but
-    # never here, where a Mark has a known fluid
+    # tested: every record to write, saturation, accept; no other record, as every known mark names a fluid; can
+    # occur: the same, but never here, where a Mark has a known fluid and a Fluid a known number
     UNKNOWN_FLUID = 17, "the fluid's number is unknown"
     # tested: no record; every run, after 7; can occur: a run of more than 4,096 records, but never here, where
     # it is answered piece by piece
     TOO_MANY_RECORDS = 18, "the run has more than 4,096 records"
+    # tested: accept, after 4 and after 12; can occur: the same
+    NOT_ACCEPTED = 19, "the proposed pair is not accepted"
+    # tested: saturation; can occur: at the critical temperature, and very close below it
+    GAVE_UP = 20, "no saturation pair was found"
 
 
 class Refused(Exception):
-    """A record was refused; `refusal` says why. There is no number."""
+    """A record, a temperature or a pair was refused; `refusal` says why. There is no number."""
 
     # A run may have thousands, so none takes a line of Python to be made; its text is made when it is asked for.
 
@@ -160,6 +180,13 @@ class Record(typing.NamedTuple):
     mark: Mark
     first: float | None
     second: float | None
+
+
+class Pair(typing.NamedTuple):
+    """The densities of the liquid and of the vapour that stand beside each other, in mol/dm³."""
+
+    liquid: float
+    vapour: float
 
 
 def _loaded() -> ctypes.CDLL:
@@ -200,6 +227,9 @@ _run_call = _declared("verriblom_answers", *_bytes, *_bytes, *_places)
 _kind_and_fluid = (ctypes.c_uint32, ctypes.c_uint32)
 _both_bits = (ctypes.c_uint64, ctypes.c_uint64)
 _write_call = _declared("verriblom_write", *_kind_and_fluid, *_both_bits, *_bytes, ctypes.c_size_t)
+_fluid_and_temperature = (ctypes.c_uint32, ctypes.c_double)
+_saturation_call = _declared("verriblom_saturation", *_fluid_and_temperature, *_bytes)
+_accept_call = _declared("verriblom_accept", *_fluid_and_temperature, ctypes.c_double, ctypes.c_double)
 
 
 def record(mark: Mark, first: float | None = None, second: float | None = None) -> bytes:
@@ -301,3 +331,22 @@ def density(
     if side not in (Mark.FROM_BELOW, Mark.FROM_ABOVE, Mark.NO_SIDE):
         raise ValueError(f"{side} is no side")
     return answer(record(side.of(fluid), temperature, pressure))
+
+
+def saturation(fluid: Fluid, temperature: float) -> Pair:
+    """The saturation pair of a fluid at a temperature in K; raises Refused.
+
+    `accept` accepts it. The pressure is that of `pressure` at either density.
+    """
+    out = ctypes.create_string_buffer(_NUMBERS.size)
+    code = _saturation_call(fluid.number, temperature, out, len(out))
+    if code != 0:
+        raise Refused(Refusal(code))
+    return Pair(*_NUMBERS.unpack(out.raw))
+
+
+def accept(fluid: Fluid, temperature: float, liquid: float, vapour: float) -> None:
+    """Nothing where the two densities, in mol/dm³, are a saturation pair of the fluid; raises Refused where not."""
+    code = _accept_call(fluid.number, temperature, liquid, vapour)
+    if code != 0:
+        raise Refused(Refusal(code))

@@ -12,6 +12,7 @@ int main(void)
     check_stability();
     check_search();
     check_density();
+    check_pairs();
     check_questions();
     check_generator();
     printf("%u passed, %u failed\n", counted.passed, counted.failed);

@@ -181,6 +181,12 @@ static double Q_of(const struct state *s)
     return 1 + 2 * s->sums.S1 + s->sums.S2;
 }
 
+/* Gibbs energy without its R·T. */
+static double g_of(const struct state *s)
+{
+    return 1 + I0(s) + s->sums.S0 + s->sums.S1;
+}
+
 static struct outcome pressure(const struct state *s)
 {
     return settled(((s->rho * 1000) * (s->fluid->R * s->T)) * (1 + s->sums.S1));
@@ -208,7 +214,7 @@ static struct outcome entropy(const struct state *s)
 
 static struct outcome gibbs(const struct state *s)
 {
-    return settled((s->fluid->R * s->T) * (1 + I0(s) + s->sums.S0 + s->sums.S1));
+    return settled((s->fluid->R * s->T) * g_of(s));
 }
 
 static struct outcome helmholtz(const struct state *s)
@@ -281,6 +287,12 @@ struct outcome isotherm_pressure(const struct isotherm *isotherm, double rho)
 {
     struct state state = state_at(isotherm, rho);
     return pressure(&state);
+}
+
+struct phase isotherm_phase(const struct isotherm *isotherm, double rho)
+{
+    struct state state = state_at(isotherm, rho);
+    return (struct phase){ .p = pressure(&state).value, .g = g_of(&state), .Q = Q_of(&state) };
 }
 
 static double estimate_term(const struct estimate_term *term, double theta)

@@ -5,7 +5,7 @@
 #include <math.h>
 #include <stdint.h>
 
-/* 01, "Numbered refusals", and M-100's 17. */
+/* 01, "Numbered refusals", M-100's 17, and M-105's 19 and 20. */
 enum refusal {
     ANSWERED = 0,
     REFUSED_NOT_A_NUMBER = 2,
@@ -25,10 +25,12 @@ enum refusal {
     REFUSED_NOT_ENCLOSED = 16,
     REFUSED_UNKNOWN_FLUID = 17,
     REFUSED_TOO_MANY_RECORDS = 18,
+    REFUSED_NOT_ACCEPTED = 19,
+    REFUSED_GIVEN_UP = 20,
 };
 
 /* As many codes as there are, 0 among them. */
-enum { CODES = 19 };
+enum { CODES = 21 };
 
 struct outcome {
     uint64_t code;

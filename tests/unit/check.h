@@ -32,6 +32,7 @@ void check_tables(void);
 void check_stability(void);
 void check_search(void);
 void check_density(void);
+void check_pairs(void);
 void check_questions(void);
 void check_generator(void);
 

@@ -9,3 +9,4 @@ pub mod Codes
 pub mod Estimated
 pub mod Numbered
 pub mod Runs
+pub mod Pairs

@@ -49,7 +49,7 @@ known-or-not : {A : Type 0} (refused : Refusal → A) (call : Fluid → A) → (
 known-or-not refused call never (Known F) = ((λ e. absurd (never F e)), (λ e. absurd (true≢false (cc))))
 known-or-not refused call never Unknown = ((λ e. refl), (λ e. refl))
 
-exactly : {A : Type 0} (refused : Refusal → A) (call : Fluid → A) → ((F : Fluid) → call F ≡ refused UnknownFluid → ⊥) → Exactly17 refused call
+pub exactly : {A : Type 0} (refused : Refusal → A) (call : Fluid → A) → ((F : Fluid) → call F ≡ refused UnknownFluid → ⊥) → Exactly17 refused call
 exactly refused call never n = known-or-not refused call never (fluidNumbered n)
 
 -- ---- no call of a fluid ends with it

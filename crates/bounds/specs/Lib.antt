@@ -1,2 +1,3 @@
 pub mod NoAnswer
 pub mod Records
+pub mod Pairs

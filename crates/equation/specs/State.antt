@@ -19,8 +19,11 @@ abbrev pub stateAt : Fluid → Float → Float → State
 stateAt F T ρ = stateOf (keptOf F T) ρ
 
 -- pressure ((ρ·1000)·(R·T))·(1 + S1)
+abbrev pub pressureBy : Float → Float → Float → Float → Float
+pressureBy R T ρ S1 = ((ρ ⊗ real 1000) ⊗ (R ⊗ T)) ⊗ (real 1 ⊕ S1)
+
 unfoldable pub pressureValue : State → Float
-pressureValue s = ((s .rho ⊗ real 1000) ⊗ (entryOf (s .fluid) .R ⊗ s .t)) ⊗ (real 1 ⊕ s .sums .s1)
+pressureValue s = pressureBy (entryOf (s .fluid) .R) (s .t) (s .rho) (s .sums .s1)
 
 unfoldable pub pressureAt : Kept → Float → Float
 pressureAt k ρ = pressureValue (stateOf k ρ)

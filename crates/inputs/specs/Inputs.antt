@@ -56,6 +56,14 @@ module _ (F : Fluid) (T : Float) where
   abbrev pub saturationTests : List (Bool × Refusal)
   saturationTests = beginning F (finite T) T ++ ((le T (entryOf F .Tc), AboveCritical) ∷ [])
 
+  -- a liquid's and a vapour's density beside T: 2 of any of the three, 3, 4 of either
+  abbrev pub pairTests : Float → Float → List (Bool × Refusal)
+  pairTests l v = beginning F (finite T && (finite l && finite v)) T ++ ((densityTest F l .0 && densityTest F v .0, DensityOutside) ∷ [])
+
+  -- T alone, with an output: 2, 3, 7
+  abbrev pub outputTests : Bool → List (Bool × Refusal)
+  outputTests room = beginning F (finite T) T ++ ((room, TooShort) ∷ [])
+
   -- a pressure that is asked for: 2, 3, 5
   abbrev pub askedTests : Float → List (Bool × Refusal)
   askedTests P = beginning F (finite T && finite P) T ++ (pressureTest F P ∷ [])
@@ -78,6 +86,12 @@ module _ (F : Fluid) (T : Float) where
 
   unfoldable pub saturationPermit : Permit
   saturationPermit = firstOf saturationTests
+
+  unfoldable pub pairPermit : Float → Float → Permit
+  pairPermit l v = firstOf (pairTests l v)
+
+  unfoldable pub outputPermit : Bool → Permit
+  outputPermit room = firstOf (outputTests room)
 
   unfoldable pub askedPermit : Float → Permit
   askedPermit P = firstOf (askedTests P)

@@ -9,6 +9,8 @@ use refusals::Permit;
 use refusals::Refusal;
 use refusals::tested;
 ghost use mathlib.Core.Path.{_≡_};
+ghost use mathlib.Core.Bool.{_&&_};
+ghost use lib.Ieee.Scale as Scale;
 ghost use Rattle.inputs.specs.Inputs as Inputs;
 
 // T in its range, in K.
@@ -96,6 +98,43 @@ pub fn saturation_inputs(fluid: Fluid, t: f64) -> Permit
     let numbers = fluids::single_numbers(fluid);
     let critical = numbers.critical_temperature;
     tested(before, t <= critical, Refusal::AboveCritical)
+}
+
+// T and both densities are finite.
+fn pair_finite(t: f64, liquid: f64, vapour: f64) -> bool
+    ensures { λ r. ⌜ r ≡ Scale.finite t && (Scale.finite liquid && Scale.finite vapour) ⌝ }
+{
+    if finite(t) {
+        return both_finite(liquid, vapour);
+    }
+    false
+}
+
+// Both densities in their range.
+fn pair_permitted(fluid: Fluid, liquid: f64, vapour: f64) -> bool
+    ensures { λ r. ⌜ r ≡ Inputs.densityTest fluid liquid .0 && Inputs.densityTest fluid vapour .0 ⌝ }
+{
+    if density_permitted(fluid, liquid) {
+        return density_permitted(fluid, vapour);
+    }
+    false
+}
+
+// A liquid's and a vapour's density at t: 2, 3, 4.
+pub fn pair_inputs(fluid: Fluid, t: f64, liquid: f64, vapour: f64) -> Permit
+    ensures { λ r. ⌜ r ≡ Inputs.pairPermit fluid t liquid vapour ⌝ }
+{
+    let before = temperature_inputs(fluid, pair_finite(t, liquid, vapour), t);
+    let densities = pair_permitted(fluid, liquid, vapour);
+    tested(before, densities, Refusal::DensityOutside)
+}
+
+// A temperature, with an output that has room or not: 2, 3, 7.
+pub fn output_inputs(fluid: Fluid, t: f64, room: bool) -> Permit
+    ensures { λ r. ⌜ r ≡ Inputs.outputPermit fluid t room ⌝ }
+{
+    let before = temperature_inputs(fluid, finite(t), t);
+    tested(before, room, Refusal::TooShort)
 }
 
 // A pressure that is asked for: 2, 3, 5.

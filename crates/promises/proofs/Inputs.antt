@@ -15,6 +15,10 @@ use Rattle.inputs.proofs.search_inputs.Kinds as search-inputs-kinds
 use Rattle.inputs.proofs.search_inputs.Reads as search-inputs-reads
 use Rattle.inputs.proofs.prepare_inputs.Kinds as prepare-inputs-kinds
 use Rattle.inputs.proofs.prepare_inputs.Reads as prepare-inputs-reads
+use Rattle.inputs.proofs.pair_inputs.Kinds as pair-inputs-kinds
+use Rattle.inputs.proofs.pair_inputs.Reads as pair-inputs-reads
+use Rattle.inputs.proofs.output_inputs.Kinds as output-inputs-kinds
+use Rattle.inputs.proofs.output_inputs.Reads as output-inputs-reads
 
 pub room-one : OneResult _ room-kinds.ps room-kinds.r room-reads.Learnt
 room-one κs a x y e f p q = p ∙ sym q
@@ -36,3 +40,9 @@ search-inputs-one κs a x y e f p q = p ∙ sym q
 
 pub prepare-inputs-one : OneResult _ prepare-inputs-kinds.ps prepare-inputs-kinds.r prepare-inputs-reads.Learnt
 prepare-inputs-one κs a x y e f p q = p ∙ sym q
+
+pub pair-inputs-one : OneResult _ pair-inputs-kinds.ps pair-inputs-kinds.r pair-inputs-reads.Learnt
+pair-inputs-one κs a x y e f p q = p ∙ sym q
+
+pub output-inputs-one : OneResult _ output-inputs-kinds.ps output-inputs-kinds.r output-inputs-reads.Learnt
+output-inputs-one κs a x y e f p q = p ∙ sym q

@@ -16,6 +16,7 @@ pub mod Stability
 pub mod Values
 pub mod Properties
 pub mod Saturation
+pub mod Coexistence
 pub mod Inputs
 pub mod Lists
 pub mod Steps

@@ -12,7 +12,7 @@ use Rattle.refusals.specs.declared.Refusal.{Refusal}
 use Rattle.refusals.specs.declared.Permit.{Permit}
 use Rattle.refusals.specs.declared.Permit.the-variants.{Granted, Denied}
 use Rattle.refusals.specs.Code.{codeOf, OneOf}
-use Rattle.refusals.specs.Order.{firstOf, testedOf}
+use Rattle.refusals.specs.Order.{firstOf, testedOf, granted}
 use Rattle.refusals.proofs.Apart.{granted≢denied, other-code}
 use Rattle.refusals.proofs.Needed.{test-passed, rest-granted, also, first-of-both}
 
@@ -124,3 +124,23 @@ pub one-test :
     r ≡ testedOf before b e → before ≡ firstOf passed → b ≡ t → r ≡ firstOf (passed ++ ((t, e) ∷ []))
 one-test passed t e {r} {before} {b} worked first test =
     worked ∙ ap (λ (x : Bool). testedOf before x e) test ∙ tests-after passed ((t, e) ∷ []) before first
+
+-- ---- whether tests grant
+
+-- two parts of a list of tests grant exactly if each does
+pub granted-both : (p q : Permit) → granted (also p q) ≡ (granted p && granted q)
+granted-both Granted q = refl
+granted-both (Denied r) q = refl
+
+-- one test, and two
+pub granted-one : (b : Bool) (r : Refusal) → granted (firstOf ((b, r) ∷ [])) ≡ b
+granted-one true r = refl
+granted-one false r = refl
+
+pub granted-two : (a b : Bool) (r s : Refusal) → granted (firstOf ((a, r) ∷ (b, s) ∷ [])) ≡ (a && b)
+granted-two true b r s = granted-one b s
+granted-two false b r s = refl
+
+pub is-granted : (p : Permit) → granted p ≡ true → p ≡ Granted
+is-granted Granted e = refl
+is-granted (Denied r) e = cc

@@ -17,7 +17,7 @@ ghost use Rattle.inputs.specs.Numbered.{byNumber};
 ghost use Rattle.saturation.specs.Calls as Calls;
 
 // The estimate of a curve at T: 2, 3, 13, 12; 12 never occurs (docs/NO-ANSWER.md).
-fn answer_of(fluid: Fluid, curve: Curve, t: f64) -> Answer
+pub fn answer_of(fluid: Fluid, curve: Curve, t: f64) -> Answer
     ensures { λ r. ⌜ r ≡ Calls.curveOf fluid t curve ⌝ }
 {
     let permit = saturation_inputs(fluid, t);

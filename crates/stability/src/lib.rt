@@ -6,7 +6,7 @@ use fluids::Fluid;
 use ideal::i2;
 use roots::root;
 ghost use mathlib.Core.Path.{_≡_};
-ghost use Rattle.stability.specs.Stability.{stabilityOf, isobaricFrom, soundSpeedFrom};
+ghost use Rattle.stability.specs.Stability.{Q, stabilityOf, isobaricFrom, soundSpeedFrom};
 
 // V, K, Q of a state, with its fluid and its T.
 pub struct Stability {
@@ -15,6 +15,16 @@ pub struct Stability {
     pub v: f64,
     pub k: f64,
     pub q: f64,
+}
+
+// Q = 1 + 2·S1 + S2, alone; one NaN where it is not finite.
+pub fn q_of(state: State) -> f64
+    ensures { λ r. ⌜ r ≡ Q state ⌝ }
+{
+    let sums = state.sums;
+    let s1 = sums.s1;
+    let s2 = sums.s2;
+    squash(1.0 + 2.0 * s1 + s2)
 }
 
 // V, K and Q, each one NaN where it is not finite.
@@ -27,10 +37,9 @@ pub fn stability_of(state: State) -> Stability
     let t2 = sums.t2;
     let s1 = sums.s1;
     let st = sums.st;
-    let s2 = sums.s2;
     let v = squash(i2(fluid, t) - t2);
     let k = squash(1.0 + s1 - st);
-    let q = squash(1.0 + 2.0 * s1 + s2);
+    let q = q_of(state);
     Stability { fluid, t, v, k, q }
 }
 

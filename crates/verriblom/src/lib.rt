@@ -1,8 +1,16 @@
 // The calls for C, thin over the crates that do the work: include/verriblom.h says what each is asked and answers.
+use coexistence::accept;
+use coexistence::saturation_into;
 use questions::answer_into;
+use refusals::permit_code;
 use runs::answers_into;
 use writing::write;
 ghost use mathlib.Core.Path.{_≡_};
+ghost use Rattle.refusals.specs.declared.Permit.the-variants.{Denied};
+ghost use Rattle.refusals.specs.Code.{permitCodeOf};
+ghost use Rattle.inputs.specs.Numbered.{byNumber};
+ghost use Rattle.coexistence.specs.Judge.{judgeOf};
+ghost use Rattle.coexistence.specs.Call.{saturationOf};
 ghost use Rattle.questions.specs.Call.{callCode, callOutput};
 ghost use Rattle.runs.specs.Answers.{runCode, runOutput, runCodes};
 ghost use Rattle.writing.specs.Write.{writeOf};
@@ -44,4 +52,22 @@ pub extern "C" fn verriblom_write(
     ensures { λ r. ⌜ (r, now (buffer .exit)) ≡ writeOf kind fluid first second (now (buffer .entry)) place ⌝ }
 {
     write(kind, fluid, first, second, buffer, place)
+}
+
+// The saturation pair of a fluid at t K: 0, and the bits of the liquid's and then of the vapour's density, mol/dm³, in the first sixteen bytes of out, the
+// lowest first; or 17, 2, 3, 7 where out has less than sixteen bytes, 13 above the critical temperature, 20 where no pair was found, and out as it was.
+#[no_mangle]
+pub extern "C" fn verriblom_saturation(fluid: u32, t: f64, out: &mut [u8]) -> u32
+    ensures { λ r. ⌜ (r, now (out .exit)) ≡ saturationOf fluid t (now (out .entry)) ⌝ }
+{
+    saturation_into(fluid, t, out)
+}
+
+// Whether a liquid's and a vapour's density, mol/dm³, are a saturation pair of a fluid at t K: 0; or 17, 2, 3, 4, 19 where t is not below the critical
+// temperature or the densities are not on either side of the critical one, 12, 19 where the two states do not agree.
+#[no_mangle]
+pub extern "C" fn verriblom_accept(fluid: u32, t: f64, liquid: f64, vapour: f64) -> u32
+    ensures { λ r. ⌜ r ≡ permitCodeOf (byNumber Denied fluid (λ F. judgeOf F t liquid vapour)) ⌝ }
+{
+    permit_code(accept(fluid, t, liquid, vapour))
 }

@@ -61,11 +61,19 @@ returns-17 c = rw (c .enum-told17 .given .1) refl
 returns-18 : tie.Need-returns-18
 returns-18 c = rw (c .enum-told18 .given .1) refl
 
+returns-19 : tie.Need-returns-19
+returns-19 c = rw (c .enum-told19 .given .1) refl
+
+returns-20 : tie.Need-returns-20
+returns-20 c = rw (c .enum-told20 .given .1) refl
+
 pub code-spec : {M : Type 1} → statement M
 code-spec =
     tie.close
     (tie.spec
     enum-told
+    (λ c. search needs)
+    (λ c. search needs)
     (λ c. search needs)
     (λ c. search needs)
     (λ c. search needs)
@@ -100,4 +108,6 @@ code-spec =
     returns-15
     returns-16
     returns-17
-    returns-18)
+    returns-18
+    returns-19
+    returns-20)

@@ -1,0 +1,6 @@
+mod Divided
+pub mod Judgement
+mod Sequence
+mod Settled
+pub mod Meaning
+pub mod Theorems

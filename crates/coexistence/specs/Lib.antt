@@ -1,0 +1,6 @@
+pub mod Phase
+pub mod Judge
+pub mod Round
+pub mod Proposer
+pub mod Call
+pub mod Accepted
