@@ -17,6 +17,7 @@ struct language {
     void (*range)(const char *c_name, const char *rust_name, const struct range *range);
     void (*pair)(const struct ideal_pair *pair);
     void (*row)(const struct row *row);
+    void (*series)(const char *name, const struct series *series);
     /* What stands before the array, an entry, its top, its pairs and its rows, and after a list, an entry and the array. */
     const char *begin, *entry, *top, *pairs, *rows, *list_end, *entry_end, *end;
 };
@@ -43,8 +44,15 @@ static void c_row(const struct row *row) {
     printf(DIGITS ", " DIGITS ", " DIGITS ", " DIGITS "},\n", row->eta, row->beta, row->gamma, row->epsilon);
 }
 
+static void c_series(const char *name, const struct series *series) {
+    printf("        .%s = {%zu, {", name, series->count);
+    for (size_t k = 0; k < series->count; k++)
+        printf("{" DIGITS ", " DIGITS "}, ", series->term[k].N, series->term[k].t);
+    printf("}},\n");
+}
+
 static const struct language in_c = {
-    c_single, c_range, c_pair, c_row,
+    c_single, c_range, c_pair, c_row, c_series,
     "static const struct fluid fluids[] = {\n",
     "    {\n",
     "        .top = ",
@@ -81,8 +89,22 @@ static void rust_row(const struct row *row) {
     printf("),\n");
 }
 
+static void rust_term(const struct estimate_term *term) {
+    if (term->t == 1)
+        printf("Alone(" DIGITS "), ", term->N);
+    else
+        printf("Raised(" DIGITS ", " DIGITS "), ", term->N, term->t);
+}
+
+static void rust_series(const char *name, const struct series *series) {
+    printf("        %s: &[", name);
+    for (size_t k = 0; k < series->count; k++)
+        rust_term(&series->term[k]);
+    printf("],\n");
+}
+
 static const struct language in_rust = {
-    rust_single, rust_range, rust_pair, rust_row,
+    rust_single, rust_range, rust_pair, rust_row, rust_series,
     "pub static FLUIDS: &[Fluid] = &[\n",
     "    Fluid {\n",
     "        top: ",
@@ -123,6 +145,11 @@ static void write_rows(const struct language *in, const struct fluid *fluid) {
     printf("%s", in->list_end);
 }
 
+static void write_estimates(const struct language *in, const struct fluid *fluid) {
+    in->series("liquid", &fluid->liquid_density);
+    in->series("vapour", &fluid->vapour_density);
+}
+
 static void write_fluids(const struct language *in) {
     printf("%s", in->begin);
     for (uint64_t number = 0; number < FLUIDS; number++) {
@@ -131,6 +158,7 @@ static void write_fluids(const struct language *in) {
         write_singles(in, fluid);
         write_pairs(in, fluid);
         write_rows(in, fluid);
+        write_estimates(in, fluid);
         printf("%s", in->entry_end);
     }
     printf("%s", in->end);

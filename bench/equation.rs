@@ -1,5 +1,9 @@
 //! The equation in Rust in the package's form: what the temperature alone decides is kept, the powers and the
 //! exponentials are worked seven at a time, rows 6 and 7 are damped as row 9 is, and one loop sums.
+// Only where they are timed: one more caller of the ideal part, and the compiler would no longer inline it in the entropy.
+#[cfg(pairs)]
+#[path = "pairs.rs"]
+mod pairs;
 #[path = "records.rs"]
 mod records;
 

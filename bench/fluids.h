@@ -6,7 +6,7 @@
 #include <stddef.h>
 #include <stdint.h>
 
-enum { ROWS = 14, PAIRS = 3 };
+enum { ROWS = 14, PAIRS = 3, TERMS = 5 };
 
 enum kind { PLAIN, DAMPED, BELL };
 
@@ -22,6 +22,16 @@ struct pair {
     double v, u;
 };
 
+/* Of a saturation estimate: N times theta to the power t; t is 1 where theta stands alone. */
+struct term {
+    double N, t;
+};
+
+struct series {
+    size_t count;
+    struct term term[TERMS];
+};
+
 struct range {
     double least, greatest;
 };
@@ -32,6 +42,7 @@ struct fluid {
     size_t top;
     struct pair pairs[PAIRS];
     struct row rows[ROWS];
+    struct series liquid, vapour;
 };
 
 /* The array `fluids`, in the order of their numbers. */

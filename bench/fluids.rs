@@ -1,6 +1,10 @@
 //! The fluids as data; a candidate is told the number of one when it is called, as the package is. digits.rs has the digits, and
 //! bench/digits writes it. Units: K, mol/dm³, Pa, J/(mol K), kg/mol.
+// The estimates are for saturation pairs alone.
+#![cfg_attr(not(pairs), allow(dead_code))]
+
 use Row::{Bell, Damped, Plain};
+use Term::{Alone, Raised};
 
 #[derive(Clone, Copy)]
 pub enum Row {
@@ -23,6 +27,13 @@ pub struct Shape {
 
 const fn shape(eta: f64, beta: f64, gamma: f64, epsilon: f64) -> Shape {
     Shape { eta, beta, gamma, epsilon }
+}
+
+/// Of a saturation estimate: N·θ, or N·θᵗ.
+#[derive(Clone, Copy)]
+pub enum Term {
+    Alone(f64),
+    Raised(f64, f64),
 }
 
 pub struct Range {
@@ -52,6 +63,8 @@ pub struct Fluid {
     /// v and u
     pub pairs: [(f64, f64); 3],
     pub rows: [Row; 14],
+    pub liquid: &'static [Term],
+    pub vapour: &'static [Term],
 }
 
 // FLUIDS, in the order of their numbers; DIGITS names the folder that has it.

@@ -1,5 +1,6 @@
 /* The C calls in C, in the package's form: a record read, its inputs tested, the pressure worked or the density searched
  * (searches.h); a run of records, one after the other; and a record written. */
+#include "put.h"
 #include "same_form.c"
 
 uint32_t NAMED(answer)(const uint8_t *record, size_t record_len, uint8_t *out, size_t out_len);
@@ -15,18 +16,6 @@ static double number_at(const uint8_t *bytes) {
     double number;
     memcpy(&number, &bits, sizeof number);
     return number;
-}
-
-static void put_word(uint8_t *out, uint64_t word) {
-    for (int k = 0; k < 8; k++)
-        out[k] = (uint8_t)(word >> 8 * k);
-}
-
-static uint32_t put_number(uint8_t *out, double number) {
-    uint64_t bits;
-    memcpy(&bits, &number, sizeof bits);
-    put_word(out, bits);
-    return 0;
 }
 
 /* A mark's first letter names the fluid: the place is the fluid's number. */
