@@ -18,14 +18,17 @@
 
 enum { DIFFERENCES_SHOWN = 5 };
 
-/* The header's numbers are 01's and M-100's. */
+/* The header's numbers are 01's, M-100's and M-105's. */
 _Static_assert((int)VERRIBLOM_ANSWERED == (int)ANSWERED && (int)VERRIBLOM_INPUT_NOT_FINITE == (int)REFUSED_NOT_A_NUMBER
                    && (int)VERRIBLOM_TEMPERATURE_OUTSIDE == (int)REFUSED_TEMPERATURE
                    && (int)VERRIBLOM_DENSITY_OUTSIDE == (int)REFUSED_DENSITY
                    && (int)VERRIBLOM_OUTPUT_TOO_SHORT == (int)REFUSED_SHORT_LIST
                    && (int)VERRIBLOM_WORK_NOT_FINITE == (int)REFUSED_NOT_FINITE
-                   && (int)VERRIBLOM_UNKNOWN_FLUID == (int)REFUSED_UNKNOWN_FLUID,
-               "a code of the header is another than 01's");
+                   && (int)VERRIBLOM_ABOVE_CRITICAL == (int)REFUSED_ABOVE_CRITICAL
+                   && (int)VERRIBLOM_UNKNOWN_FLUID == (int)REFUSED_UNKNOWN_FLUID
+                   && (int)VERRIBLOM_NOT_ACCEPTED == (int)REFUSED_NOT_ACCEPTED
+                   && (int)VERRIBLOM_GAVE_UP == (int)REFUSED_GIVEN_UP,
+               "a code of the header is another than 01's or 02's");
 
 /* Written out at once, as a later call may end the program. */
 static void show_order(const struct order *order, const struct result got[ENDS], const struct result *wanted)
