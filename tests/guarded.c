@@ -15,6 +15,11 @@ struct guarded guarded_pages(size_t bytes)
     return (struct guarded){ .begin = all + page, .end = all + page + whole };
 }
 
+uint8_t *guarded_at(struct guarded bytes, int end, size_t count)
+{
+    return end == 0 ? bytes.begin : bytes.end - count;
+}
+
 uint8_t *guarded_end(size_t bytes)
 {
     return guarded_pages(bytes).end;

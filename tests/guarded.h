@@ -13,6 +13,9 @@ struct guarded {
  * twice where there are none to be had. */
 struct guarded guarded_pages(size_t bytes);
 
+/* So many of them, at their beginning (end 0) or at their end. */
+uint8_t *guarded_at(struct guarded bytes, int end, size_t count);
+
 /* Where such bytes end. */
 uint8_t *guarded_end(size_t bytes);
 

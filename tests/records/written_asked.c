@@ -14,11 +14,6 @@ bool lend_written_memory(struct written_memory *memory)
     return memory->buffer.end != NULL && memory->untouchable != NULL;
 }
 
-static uint8_t *bytes_at(const struct written_memory *memory, int end, size_t count)
-{
-    return end == 0 ? memory->buffer.begin : memory->buffer.end - count;
-}
-
 static uint32_t call(const struct writing *writing, uint8_t *buffer, size_t length, size_t place)
 {
     return verriblom_write(writing->kind, writing->fluid, writing->first, writing->second, buffer, length, place);
@@ -26,7 +21,7 @@ static uint32_t call(const struct writing *writing, uint8_t *buffer, size_t leng
 
 void ask(const struct written_memory *memory, int end, const struct order *order, struct result *got)
 {
-    uint8_t *buffer = bytes_at(memory, end, order->length);
+    uint8_t *buffer = guarded_at(memory->buffer, end, order->length);
     memcpy(buffer, order->before, order->length);
     got->code = call(&order->writing, buffer, order->length, order->place);
     memcpy(got->after, buffer, order->length);
@@ -79,6 +74,6 @@ bool writes_its_bytes_alone(const struct written_memory *memory, const struct wr
 {
     bool same = true;
     for (int end = 0; end < ENDS; end++)
-        same = writes_all(bytes_at(memory, end, RECORD_BYTES), writing, length, place) && same;
+        same = writes_all(guarded_at(memory->buffer, end, RECORD_BYTES), writing, length, place) && same;
     return same;
 }

@@ -17,11 +17,6 @@ bool lend_memory(struct memory *memory)
     return memory->output.end != NULL && memory->untouchable != NULL;
 }
 
-static uint8_t *bytes_at(const struct memory *memory, int end, size_t count)
-{
-    return end == 0 ? memory->output.begin : memory->output.end - count;
-}
-
 static uint32_t call(const struct order *order, uint8_t *output, size_t length)
 {
     return verriblom_saturation(order->fluid, number_of(order->T), output, length);
@@ -29,7 +24,7 @@ static uint32_t call(const struct order *order, uint8_t *output, size_t length)
 
 static void ask(const struct memory *memory, int end, const struct order *order, struct result *got)
 {
-    uint8_t *output = bytes_at(memory, end, order->length);
+    uint8_t *output = guarded_at(memory->output, end, order->length);
     memcpy(output, order->before, order->length);
     got->code = call(order, output, order->length);
     memcpy(got->after, output, order->length);
@@ -82,7 +77,7 @@ bool writes_its_bytes_alone(const struct memory *memory, const struct order *ord
 {
     bool same = true;
     for (int end = 0; end < ENDS; end++)
-        same = writes_all(bytes_at(memory, end, PAIR_BYTES), order, length, pair) && same;
+        same = writes_all(guarded_at(memory->output, end, PAIR_BYTES), order, length, pair) && same;
     return same;
 }
 

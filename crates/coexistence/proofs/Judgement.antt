@@ -1,6 +1,6 @@
 -- Whether the judge accepts, as the four tests that the code works, and what becomes of one pair of the sequence by them.
 use mathlib.Core.Path.{_≡_, refl, sym, _∙_, ap}
-use mathlib.Core.Bool.{Bool, true, false, cond, _&&_}
+use mathlib.Core.Bool.{Bool, true, false, cond, _&&_, and-false}
 use mathlib.Core.List.{List, [], _∷_, _++_}
 use lib.Ieee.{Float}
 use Rattle.refusals.specs.declared.Refusal.{Refusal}
@@ -59,10 +59,6 @@ module _ (F : Fluid) (T l v : Float) where
     unfolding goesOn
     goes-on-by worked e = simp (inside, e)
 
-    never : (b : Bool) → (b && false) ≡ false
-    never true = refl
-    never false = refl
-
     pub judged-accepted : allFinite (comparedAt F T l v) ≡ true → (ordered F T l v && meets (comparedAt F T l v)) ≡ true → Accepted ≡ judgedOf F T (pair l v)
     unfolding judgedOf
     judged-accepted worked met = sym (simp (accepts-by true worked ∙ met))
@@ -75,7 +71,7 @@ module _ (F : Fluid) (T l v : Float) where
 
     pub judged-not-finite : allFinite (comparedAt F T l v) ≡ false → Ends ≡ judgedOf F T (pair l v)
     unfolding judgedOf
-    judged-not-finite worked = sym (simp (accepts-by false worked ∙ never (ordered F T l v), goes-on-by false worked))
+    judged-not-finite worked = sym (simp (accepts-by false worked ∙ and-false (ordered F T l v), goes-on-by false worked))
 
   pub judged-denied : (r : Refusal) → pairPermit F T l v ≡ Denied r → Ends ≡ judgedOf F T (pair l v)
   unfolding judgedOf accepts goesOn

@@ -11,6 +11,7 @@ use Rattle.refusals.proofs.Tests.{and-passed}
 use Rattle.refusals.proofs.InOrder.{is-granted}
 use Rattle.arithmetic.specs.Checked.{real, squash, minus, between, _⊖_}
 use Rattle.arithmetic.proofs.Operations.{⊕-squashed, ⊖-squashed, ⊗-squashed}
+use Rattle.arithmetic.proofs.Settled.{finite-above, finite-under, finite-parts}
 use Rattle.fluids.specs.declared.Fluid.{Fluid}
 use Rattle.fluids.specs.Entries.{entryOf}
 use Rattle.kept.specs.Kept.{keptOf}
@@ -23,7 +24,6 @@ use Rattle.coexistence.specs.Phase.{phaseOf, comparedBy, comparedAt}
 use Rattle.coexistence.specs.Judge.{ordered, phaseFinite, allFinite, meets, near, pressureBound, valueBound, judgeOf}
 use Rattle.coexistence.specs.Accepted.{SaturationPair}
 use Rattle.coexistence.proofs.Judgement.{accepts-is}
-use Rattle.coexistence.proofs.Settled.{finite-above, finite-under, finite-parts}
 
 -- each number of a phase is finite or `nan`
 module _ (s : State) where

@@ -15,7 +15,7 @@ abbrev μ-loop : tie.MeasureT-loop
 μ-loop fluid t l v kept liquid₀ vapour₀ left₀ liquid vapour left = left
 
 loop-holds : tie.Need-loop-holds Inv-loop μ-loop
-loop-holds c = all-left _ _ _ _ refl
+loop-holds c = all-left _ _ 41 _ refl
 
 judge-next-requires : tie.Need-judge-next-requires Inv-loop μ-loop
 judge-next-requires c κs = search needs

@@ -20,7 +20,7 @@ handed-on-requires c κs =
     let told = c .before .before in
     let inputs = told .before .before in
     let (number, (temperature, (room, none))) = output-passed _ _ _ (sym (inputs .output-inputs .ensures) ∙ told .enum-told .given .1) in
-    leb-true _ _ room
+    leb-true 16 _ room
 
 returns : tie.Need-returns
 unfolding pairInto

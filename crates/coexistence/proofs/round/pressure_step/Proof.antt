@@ -3,11 +3,10 @@ use mathlib.Core.Path.{_≡_, sym, _∙_, ap}
 use borrow.Author.Needs.{needs}
 use lib.Ieee.{Float}
 use Rattle.arithmetic.specs.Checked.{squash, _⊘_}
-use Rattle.arithmetic.proofs.Operations.{squash-add, squash-sub, squash-mul, squash-over, ⊕-left, ⊕-right, ⊖-left, ⊖-right, ⊗-left, ⊗-right, ⊘-squashed}
+use Rattle.arithmetic.proofs.Operations.{squash-mul, ⊗-left, ⊗-right, ⊘-left}
 use Rattle.arithmetic.proofs.Literals.{lit-1000}
 use Rattle.fluids.specs.declared.Constants.{Constants}
 use Rattle.coexistence.specs.Round.{pressureStep}
-use Rattle.coexistence.proofs.Divided.{⊘-left}
 use Rattle.coexistence.proofs.round.pressure_step.Statement.{statement}
 use Rattle.coexistence.proofs.round.pressure_step.Tie as tie
 

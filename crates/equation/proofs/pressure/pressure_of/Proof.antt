@@ -1,5 +1,5 @@
 -- `pressure_of` meets its contract: the gas constant is the entry's. Assumes nothing.
-use mathlib.Core.Path.{_∙_, ap}
+use mathlib.Core.Path.{_≡_, _∙_, ap}
 use borrow.Author.Needs.{needs}
 use Rattle.fluids.specs.declared.Constants.{Constants}
 use Rattle.equation.specs.State.{pressureBy, pressureValue}
@@ -11,7 +11,8 @@ unfolding pressureValue
 returns c =
     let entry = c .before in
     let s = entry .before .before .args .state in
-    c .pressure-by .ensures ∙ ap (λ (k : Constants). pressureBy (k .gas) (s .t) (s .rho) (s .sums .s1)) (entry .single-numbers .ensures)
+    let worked : c .pressure-by .result ≡ pressureBy (entry .single-numbers .result .gas) (s .t) (s .rho) (s .sums .s1) = c .pressure-by .ensures in
+    worked ∙ ap (λ (k : Constants). pressureBy (k .gas) (s .t) (s .rho) (s .sums .s1)) (entry .single-numbers .ensures)
 
 pub pressure-of-spec : {M : Type 1} → statement M
 pressure-of-spec = tie.close (tie.spec (λ c κs. search needs) (λ c κs. search needs) returns)

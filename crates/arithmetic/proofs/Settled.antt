@@ -1,11 +1,10 @@
 -- Numbers that are finite or `nan` are finite where a comparison holds of them, or where their difference is finite.
-use mathlib.Core.Path.{_≡_, refl, sym, _∙_, ap, subst}
-use mathlib.Core.Bool.{Bool, true, false, _&&_, true≢false}
+use mathlib.Core.Path.{_≡_, refl, sym, _∙_, ap}
+use mathlib.Core.Bool.{true, false, true≢false}
 use lib.Ieee.{Float, nan, inf, fin, lt, le}
 use lib.Ieee.Scale.{finite}
-use Rattle.refusals.proofs.Tests.{and-passed}
-use Rattle.arithmetic.specs.Checked.{real, squash, minus, between, _⊖_}
+use Rattle.arithmetic.specs.Checked.{squash, _⊖_}
 use Rattle.arithmetic.proofs.Operations.{nan-⊖}
 
 -- what is no NaN
 settled : (x : Float) → squash x ≡ x → (x ≡ nan → ⊥) → finite x ≡ true
