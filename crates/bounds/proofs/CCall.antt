@@ -10,7 +10,6 @@ use borrow.Author.Tests.{le-leb, ltb-true}
 use lib.Dec.{T, leb, ltb}
 use lib.ListN.{length}
 use lib.Ieee.{Float}
-use lib.Ieee.Fits.{and-l, and-r}
 use Rattle.refusals.specs.declared.Refusal.{Refusal}
 use Rattle.refusals.specs.declared.Refusal.the-variants.{TooShort, UnknownMark, CutShort}
 use Rattle.refusals.specs.declared.Permit.{Permit}
@@ -37,6 +36,7 @@ use Rattle.inputs.specs.Inputs.{stateTests, askedTests, statePermit, askedPermi
 use Rattle.bounds.specs.Records.{RecordCalls}
 use Rattle.intervals.proofs.Fractions.{is-true}
 use Rattle.inputs.proofs.Passed.{top-permitted}
+use Rattle.bounds.proofs.Among.{each-of}
 use Rattle.bounds.proofs.NeverTwelve.{pressure-answered}
 use Rattle.bounds.proofs.Searches.{every-question-answered}
 use Rattle.refusals.proofs.Apart.{granted≢denied}
@@ -117,8 +117,7 @@ code-where-granted p a work g = let (x, e) = work g in rw (g, e)
 
 -- 0 is no refusal's number
 above-0 : (codes : List ℕ) → T (every (ltb 0) codes) → (n : ℕ) → OneOf n codes → 0 < n
-above-0 (x ∷ xs) ok n (inl h) = let positive = ltb-true 0 x (is-true (ltb 0 x) (and-l (ltb 0 x) (every (ltb 0) xs) ok)) in omega arith
-above-0 (x ∷ xs) ok n (inr h) = above-0 xs (and-r (ltb 0 x) (every (ltb 0) xs) ok) n h
+above-0 codes ok n h = ltb-true 0 n (is-true (ltb 0 n) (each-of (ltb 0) codes ok n h))
 
 module _ (s out : List ℕ) where
   permit : Permit

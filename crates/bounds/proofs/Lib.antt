@@ -1,3 +1,4 @@
+pub mod Among
 pub mod Permits
 pub mod NeverTwelve
 pub mod Searches

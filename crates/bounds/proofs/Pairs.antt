@@ -1,11 +1,11 @@
 -- The codes of the judge and of the proposer are few: the judge's are its tests'; the proposer ends with a pair, with 20, or as one of the estimates, which never
 -- end with 12.
-use mathlib.Core.Path.{_≡_, refl, sym, _∙_, ap, subst}
+use mathlib.Core.Path.{_≡_, refl, subst}
 use mathlib.Core.Logic.{inl, inr}
-use mathlib.Core.Bool.{Bool, true, false, cond, true≢false}
+use mathlib.Core.Bool.{Bool, true, false, not, cond}
 use mathlib.Core.List.{List, [], _∷_, _++_}
 use Prim.Native.Nat.{ℕ}
-use lib.Dec.{T, leb}
+use lib.Dec.{leb, eqb}
 use lib.Ieee.{Float}
 use lib.ListN.{length}
 use Rattle.refusals.specs.declared.Refusal.{Refusal}
@@ -16,7 +16,6 @@ use Rattle.refusals.specs.declared.Answer.{Answer}
 use Rattle.refusals.specs.declared.Answer.the-variants.{Number, Refused}
 use Rattle.refusals.specs.Code.{codeOf, answerCodeOf, permitCodeOf, OneOf}
 use Rattle.refusals.proofs.InOrder.{denied-code, by-permit, never-denied, one-of-more}
-use Rattle.refusals.proofs.Apart.{another-code}
 use Rattle.fluids.specs.declared.Fluid.{Fluid}
 use Rattle.fluids.specs.declared.Named.{Named}
 use Rattle.fluids.specs.declared.Named.the-variants.{Known, Unknown}
@@ -32,6 +31,7 @@ use Rattle.coexistence.specs.Proposer.{pair, accepts, pairsAfter, firstAccepted
 use Rattle.coexistence.specs.Call.{Ended, pairedCodeOf, refusedWith, whereGranted, handedOn, pairInto, saturationOf}
 use Rattle.bounds.specs.NoAnswer.{Codes}
 use Rattle.bounds.specs.Pairs.{PairCalls}
+use Rattle.bounds.proofs.Among.{each-of}
 use Rattle.bounds.proofs.Codes.{codes}
 use Rattle.bounds.proofs.Numbered.{exactly}
 
@@ -72,15 +72,9 @@ module _ (F : Fluid) (t : Float) where
   unfolding pairOf
   proposer-code = started-code (saturatedLiquidOf F t) (saturatedVapourOf F t) (codes F .saturated-liquid t) (codes F .saturated-vapour t)
 
-  seventeen : {n : ℕ} → OfProposer n → n ≡ 17 → ⊥
-  seventeen (inl e) f = another-code tt e f
-  seventeen (inr (inl e)) f = another-code tt e f
-  seventeen (inr (inr (inl e))) f = another-code tt e f
-  seventeen (inr (inr (inr (inl e)))) f = another-code tt e f
-  seventeen (inr (inr (inr (inr (inl e))))) f = another-code tt e f
-
   proposer-never-17 : pairOf F t ≡ Paired.Refused UnknownFluid → ⊥
-  proposer-never-17 e = seventeen proposer-code (ap pairedCodeOf e)
+  proposer-never-17 e =
+      each-of (λ (n : ℕ). not (eqb n 17)) (0 ∷ 2 ∷ 3 ∷ 13 ∷ 20 ∷ []) tt 17 (subst (λ (p : Paired). OfProposer (pairedCodeOf p)) e proposer-code)
 
   -- into an output
 

@@ -15,7 +15,7 @@ use Rattle.fluids.specs.declared.Fluid.{Fluid}
 use Rattle.fluids.specs.Entry.{mostCells}
 use Rattle.fluids.specs.Entries.{entryOf}
 use Rattle.fluids.proofs.Sound.{sound}
-use Rattle.inputs.specs.Inputs.{topTest, roomOf, stateTests, statePermit, saturationTests, saturationPermit, outputTests, outputPermit, pairTests, pairPermit, searchTests, searchPermit, prepareTests, preparePermit}
+use Rattle.inputs.specs.Inputs.{topTest, roomOf, stateTests, statePermit, saturationTests, saturationPermit, outputTests, outputPermit, searchTests, searchPermit, prepareTests, preparePermit}
 
 pub state-passed : (F : Fluid) (t ρ : Float) → statePermit F t ρ ≡ Granted → AllPassed (stateTests F t ρ)
 unfolding statePermit
@@ -28,10 +28,6 @@ saturation-passed F t ok = all-passed (saturationTests F t) ok
 pub output-passed : (F : Fluid) (t : Float) (room : Bool) → outputPermit F t room ≡ Granted → AllPassed (outputTests F t room)
 unfolding outputPermit
 output-passed F t room ok = all-passed (outputTests F t room) ok
-
-pub pair-passed : (F : Fluid) (t l v : Float) → pairPermit F t l v ≡ Granted → AllPassed (pairTests F t l v)
-unfolding pairPermit
-pair-passed F t l v ok = all-passed (pairTests F t l v) ok
 
 pub search-passed : (F : Fluid) (t P : Float) (c : ℕ) (room : Bool) → searchPermit F t P c room ≡ Granted → AllPassed (searchTests F t P c room)
 unfolding searchPermit
