@@ -2,6 +2,8 @@
 //
 // A missing or empty file gives the header alone. What cannot be read, as a directory, does too; standard error then says why, as
 // it does where the lines cannot be written.
+#![tactic(auto)]
+
 ghost use Rattle.std.specs.Prelude.{◌≡◌, length};
 
 use libc::STDOUT_FILENO;

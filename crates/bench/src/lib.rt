@@ -1,4 +1,6 @@
 // The functions that bench/ times and the tests call, behind C's calling convention. Those on a fluid take its number first.
+#![tactic(auto)]
+
 ghost use Rattle.std.specs.Prelude.{◌≡◌};
 ghost use Rattle.exponentials.specs.Exp.{exp_of};
 ghost use Rattle.logarithms.specs.Ln.{ln_of};

@@ -57,7 +57,7 @@ module _ (F : Fluid) (t ρ : Float) where
   abbrev pub StableState : Type 0
   StableState = (state_permit F t ρ ≡ Granted) × (stability_permit (state_at F t (worked_density ρ)) ≡ Granted)
 
-  -- sound speed's (R-as-T)/M·(Q + K·K/V), the root's argument
+  -- sound speed's (R·T)/M·(Q + K·K/V), the root's argument
   abbrev pub root_argument : Float
   root_argument = ((entry_of F).R ⊗ t) ⊘ (entry_of F).M ⊗ (Q (state_at F t (worked_density ρ)) ⊕ K (state_at F t (worked_density ρ)) ⊗ K (state_at F t (worked_density ρ)) ⊘ «V» (state_at F t (worked_density ρ)))
 

@@ -19,6 +19,6 @@ HasRoot x w = (between (real 1) x (real (10 ^ 8)) ≡ true) × IsRoot x w
 abbrev pub SquareRoots : Type 0
 SquareRoots = (x w : Float) → T (fits binary64 x) → (square_root_of x ≡ Number w) ↔ HasRoot x w
 
--- in range with Q > 0 and V > 0; the argument is (R-as-T)/M·(Q + K·K/V), each operation rounded once
+-- in range with Q > 0 and V > 0; the argument is (R·T)/M·(Q + K·K/V), each operation rounded once
 abbrev pub SoundSpeeds : Fluid → Type 0
 SoundSpeeds F = (t ρ w : Float) → (sound_speed_of F t ρ ≡ Number w) ↔ (StableState F t ρ × HasRoot (root_argument F t ρ) w)

@@ -1,6 +1,8 @@
 // 01, "Density from pressure": the cell that a search finds among the coarse ends of a kept temperature, and the step in it.
 //
 // Parts of calls: they ask nothing of T, P, c or the lists. Beyond MOST_CELLS cells a pressure is one NaN, and that is 12.
+#![tactic(auto)]
+
 mod in_cell;
 mod plain;
 mod quick;

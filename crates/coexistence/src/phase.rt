@@ -9,7 +9,7 @@ use stability::q_of;
 use values::gibbs_over_rt;
 
 // The pressure, Pa, the value 1 + I0 + S0 + S1, and Q, of one state; each one NaN where it is not finite.
-#[derive(Drop)]
+#[derive(Clone, Copy)]
 pub struct Phase {
     pub pressure: f64,
     pub value: f64,
@@ -17,7 +17,7 @@ pub struct Phase {
 }
 
 // Two phases, and by how much the liquid's pressure and value are above the vapour's.
-#[derive(Drop)]
+#[derive(Clone, Copy)]
 pub struct Compared {
     pub liquid: Phase,
     pub vapour: Phase,

@@ -20,7 +20,7 @@ use words::{bits, put_word};
 const ROUNDS: usize = 40;
 
 // A pair of the sequence: it is accepted; or the next is this one; or the rounds end.
-#[derive(Drop)]
+#[derive(Clone, Copy)]
 pub(crate) enum Judged {
     Accepted,
     GoesOn(f64, f64),

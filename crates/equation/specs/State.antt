@@ -18,7 +18,7 @@ state_of k ρ =
 abbrev pub state_at : Fluid → Float → Float → State
 state_at F T ρ = state_of (kept_of F T) ρ
 
--- pressure ((ρ·1000)·(R-as-T))·(1 + S1)
+-- pressure ((ρ·1000)·(R·T))·(1 + S1)
 abbrev pub pressure_by : Float → Float → Float → Float → Float
 pressure_by R T ρ S1 = ((ρ ⊗ real 1000) ⊗ (R ⊗ T)) ⊗ (real 1 ⊕ S1)
 

@@ -7,7 +7,7 @@ use arithmetic::squash;
 use kept::Kept;
 use sums::sums_at;
 
-// ((ρ·1000)·(R.T))·(1 + S1).
+// ((ρ·1000)·(R·T))·(1 + S1).
 fn pressure_by(gas: f64, t: f64, rho: f64, s1: f64) -> f64
     ensures { result ≡ pressure_by gas t rho s1 }
 {

@@ -8,7 +8,7 @@ use kept::Kept;
 use sums::{Sums, sums_at};
 
 // The fluid, T, τ, ln τ, ρ, δ and the six sums.
-#[derive(Drop)]
+#[derive(Clone, Copy)]
 pub struct State {
     pub fluid: Fluid,
     pub t: f64,

@@ -25,14 +25,14 @@ pub(crate) fn scaled(x: f64) -> f64
     in_range(x) * 0.0009765625
 }
 
-// 1 + (typeof.y.H)/n.
+// 1 + (y·H)/n.
 pub(crate) fn step(y: f64, h: f64, n: f64) -> f64
     ensures { squash_of result ≡ real 1 ⊕ (squash_of y ⊗ squash_of h) ⊘ n }
 {
     1.0 + (y * h) / n
 }
 
-// For n = 16 down to 1, H = 1 + (typeof.y.H)/n.
+// For n = 16 down to 1, H = 1 + (y·H)/n.
 fn steps(y: f64) -> f64
     ensures { squash_of result ≡ exp_steps (squash_of y) 16 (real 1) }
 {

@@ -19,7 +19,7 @@ fn all_scaled(x: [f64; 7]) -> [f64; 7]
     y
 }
 
-// For n = 16 down to 1, H = 1 + (typeof.y.H)/n.
+// For n = 16 down to 1, H = 1 + (y·H)/n.
 fn all_steps(y: [f64; 7]) -> [f64; 7]
     ensures { AtEach 7 (λ i. squash (lane result i) ≡ exp_steps (squash (lane y i)) 16 (real 1)) }
 {

@@ -1,4 +1,6 @@
 // 01, "Ideal part", for formulas: I0, I1, I2, each one NaN where a value in it is not finite.
+#![tactic(auto)]
+
 ghost use Rattle.std.specs.Prelude.{◌≡◌};
 ghost use Rattle.arithmetic.specs.Checked.{squash as squash_of};
 ghost use Rattle.fluids.specs.Finite.{FinitePair};
@@ -10,7 +12,7 @@ use fluids::{Fluid, Pair};
 use logarithms::ln;
 
 // The three sums over the pairs, by the part of 01 that each is in.
-#[derive(Drop)]
+#[derive(Clone, Copy)]
 enum Part {
     OfI0,
     OfI1,

@@ -1,6 +1,8 @@
 // The tests of the inputs of every call on a fluid, in 01's order: 2, 3, 4, 5, 6, 7, 13, 10.
 //
 // Each function gives the permit, or the first refusal that applies.
+#![tactic(auto)]
+
 ghost use Rattle.std.specs.Prelude.{◌≡◌, ◌&&◌};
 ghost use Rattle.std.specs.Float.Ieee.Scale as Scale;
 ghost use Rattle.inputs.specs.Inputs as Inputs;

@@ -1,5 +1,7 @@
 // 01: prepares one isotherm in two lists of its own, asks both searches from both sides for each multiple of 100,000 Pa up to
 // 10,000,000, and prints how many of the 200 pairs of answers differ.
+#![tactic(auto)]
+
 mod pairs;
 
 use libc::STDOUT_FILENO;

@@ -1,4 +1,6 @@
 // What the temperature alone decides of a fluid's terms: τ, ln τ, each row's power and each bell's part. For formulas.
+#![tactic(auto)]
+
 ghost use Rattle.std.specs.Prelude.{◌≡◌, map, ◌+◌, ◌≤◌};
 ghost use Rattle.arithmetic.specs.Checked.{squash as squash_of};
 ghost use Rattle.arithmetic.specs.Lanes.{AtEach, lane};
@@ -14,7 +16,7 @@ use fluids::{Fluid, Term};
 use logarithms::ln;
 
 // The fluid, T, τ, ln τ, each row's power τᵗ, and each bell's β·(τ−γ)·(τ−γ).
-#[derive(Drop)]
+#[derive(Clone, Copy)]
 pub struct Kept {
     pub fluid: Fluid,
     pub t: f64,

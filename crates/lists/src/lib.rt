@@ -1,6 +1,8 @@
 // 01, "Preparing", over any pressures: the first c + 1 places of a lent list become G, L or +0.
 //
 // A list of less than c + 1 places is left as it is.
+#![tactic(auto)]
+
 ghost use Rattle.std.specs.Prelude.{◌≡◌};
 ghost use Rattle.search.specs.Lists.{greater_of, lesser_of};
 ghost use Rattle.lists.specs.Swept.{swept_up, swept_down, cleared};

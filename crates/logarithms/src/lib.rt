@@ -1,4 +1,6 @@
 // 01, "ln x". For formulas: one NaN where 01 owes refusal 12.
+#![tactic(auto)]
+
 ghost use Rattle.std.specs.Prelude.{◌≡◌, not, T};
 ghost use Rattle.std.specs.Float.Ieee.{is_nan, of_int, lt, le};
 ghost use Rattle.std.specs.Float.{binary64};
@@ -8,7 +10,7 @@ ghost use Rattle.logarithms.specs.Ln.{m_field, m_of, e_of, ln_steps, ln_work, ln
 use arithmetic::squash;
 
 // x = m·2ᵉ with 0.75 ≤ m < 1.5; e is a whole number.
-#[derive(Drop)]
+#[derive(Clone, Copy)]
 struct Parts {
     m: f64,
     e: f64,
@@ -58,7 +60,7 @@ const RECIPROCALS: [f64; 11] = [
     0.047619047619047616, // 1/21 3fa8618618618618
 ];
 
-// H = 1/21; for n = 19, 17, .. 1, H = 1/n + typeof.s.H. The sheet's place k has 1/n for n = 2·k + 1.
+// H = 1/21; for n = 19, 17, .. 1, H = 1/n + s·H. The sheet's place k has 1/n for n = 2·k + 1.
 fn steps(s: f64) -> f64
     ensures { squash_of result ≡ ln_steps (squash_of s) 10 (real 1 ⊘ real 21) }
 {

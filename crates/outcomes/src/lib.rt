@@ -1,4 +1,6 @@
 // What a search or a preparation ends with, as numbers: its code, a search's density as an answer or as bits, and its word.
+#![tactic(auto)]
+
 ghost use Rattle.std.specs.Prelude.{◌≡◌};
 ghost use Rattle.outcomes.specs.Codes.{found_code_of, prepared_code_of, found_answer_of};
 ghost use Rattle.outcomes.specs.Parts.{word_number_of, found_bits_of, found_word_of};

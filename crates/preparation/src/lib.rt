@@ -1,4 +1,6 @@
 // 01, "Preparing": the lists G and L of the pressures of an isotherm.
+#![tactic(auto)]
+
 ghost use Rattle.std.specs.Prelude.{◌≡◌, ◌+◌, ◌<◌, ◌≤◌, length};
 ghost use Rattle.fluids.specs.Entry.{most_cells};
 ghost use Rattle.search.specs.Plain.{at_ends};

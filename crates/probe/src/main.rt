@@ -2,6 +2,8 @@
 //
 // A question is 24 bytes and a reply 16 (crate probe_replies). A piece shorter than 24 bytes at the end
 // gets one reply, with code 15.
+#![tactic(auto)]
+
 ghost use Rattle.std.specs.Prelude.{◌≡◌, length};
 
 use libc::{STDIN_FILENO, STDOUT_FILENO};

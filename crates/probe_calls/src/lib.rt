@@ -1,4 +1,6 @@
 // The probe's calls of numbers alone, group after group: who has no call of the number hands it on to the next.
+#![tactic(auto)]
+
 ghost use Rattle.std.specs.Prelude.{◌≡◌, ◌/◌};
 ghost use Rattle.refusals.specs.declared.Refusal.TheVariants.{UnknownMark};
 ghost use Rattle.refusals.specs.declared.Answer.TheVariants.{Refused};

@@ -2,6 +2,8 @@
 //
 // A question is three little-endian words: the call's number and the bits of two numbers. A reply is
 // two: the code, and the number's bits or a search's word as a number, or all ones where refused.
+#![tactic(auto)]
+
 mod searches;
 
 ghost use Rattle.std.specs.Prelude.{◌≡◌, ◌++◌, ◌*◌, ◌≤◌, length, drop};

@@ -14,7 +14,7 @@ use search::Side;
 use words::number;
 
 // What lists are prepared for: the fluid of a number, at the temperature of the bits.
-#[derive(Drop)]
+#[derive(Clone, Copy)]
 pub(crate) struct Isotherm {
     pub fluid: u32,
     pub bits: u64,

@@ -1,4 +1,6 @@
 // What a question of the probe gets beside its code: a number's bits, or a search's word as a number.
+#![tactic(auto)]
+
 ghost use Rattle.std.specs.Prelude.{◌≡◌, ◌/◌};
 ghost use Rattle.std.specs.Float.{binary64};
 ghost use Rattle.std.specs.Float.Ieee.{of_bits};
@@ -13,7 +15,7 @@ use search::{Found, Side};
 use words::{bits, number};
 
 // The second word of a reply, or a refusal, which has none.
-#[derive(Drop)]
+#[derive(Clone, Copy)]
 pub enum Reply {
     Holds(u64),
     Refused(Refusal),

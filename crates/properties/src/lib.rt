@@ -1,4 +1,6 @@
 // 01, "With V, K, Q": the nine properties of a state, as calls.
+#![tactic(auto)]
+
 mod calls;
 
 pub use calls::{
@@ -7,7 +9,7 @@ pub use calls::{
 };
 
 // What is asked of a state.
-#[derive(Drop)]
+#[derive(Clone, Copy)]
 pub enum Property {
     Pressure,
     Energy,

@@ -1,6 +1,8 @@
 // 01, "Marked records, the program, the C call": what a record asks, its answer, and the answer put into an output.
 //
 // Units: K, mol/dm³, Pa.
+#![tactic(auto)]
+
 mod call;
 mod work;
 
@@ -11,7 +13,7 @@ use search::Side;
 pub use work::{answer, asked, density_at};
 
 // What a record asks.
-#[derive(Drop)]
+#[derive(Clone, Copy)]
 pub enum Question {
     // the pressure of a fluid at T and ρ
     State(Fluid, f64, f64),

@@ -1,4 +1,6 @@
 // 01, "Marked records", and 02, M-103: a record of 18 bytes read as bits and written from them, and the records of a run of bytes.
+#![tactic(auto)]
+
 mod mark;
 mod reader;
 mod run;
@@ -14,7 +16,7 @@ pub use writer::put_record;
 pub const RECORD_LENGTH: usize = 18;
 
 // What the two numbers of a record are: the second letter of its mark.
-#[derive(Drop)]
+#[derive(Clone, Copy)]
 pub enum Kind {
     // D: temperature and density
     Density,
@@ -28,14 +30,14 @@ pub enum Kind {
 }
 
 // What a letter names: a kind, or none.
-#[derive(Drop)]
+#[derive(Clone, Copy)]
 pub enum Lettered {
     Known(Kind),
     Unknown,
 }
 
 // A record as it was read: its numbers are bits.
-#[derive(Drop)]
+#[derive(Clone, Copy)]
 pub enum Record {
     // a known mark, by its second letter and its first, and two numbers; of a no-reading record, which carries none, zeros
     Marked(Kind, Fluid, u64, u64),

@@ -1,4 +1,4 @@
--- The square of a fraction is not above another fraction exactly if a whole number's square is not above another whole number: both are brought to one scale, x = a / b = s·X / L and r = c / d = G-as-R / L.
+-- The square of a fraction is not above another fraction exactly if a whole number's square is not above another whole number: both are brought to one scale, x = a / b = s·X / L and r = c / d = G·R / L.
 use mathlib.Core.Path.{◌≡◌, refl, sym, ap, ◌∙◌}
 use Prim.Native.Nat.{ℕ, zero, suc, ◌+◌, ◌*◌, ◌^◌, ◌≤◌, ◌<◌}
 use native.Mathlib.Nat.{mul-le-mul_right, mul-pos, le_of_mul-le-mul_right, mul_assoc}
@@ -31,7 +31,7 @@ module _ (a b c d s X G R L K : ℕ) (x : a * L ≡ s * X * b) (r : c * L ≡ G 
   pub square_up : 0 < L → G * G ≤ s * K → c * c * b ≤ a * (d * d)
   square_up P h = le_of_mul-le-mul_right {k = L * L} (omega (arith, left, right, mul-le-mul_right (R * R * (d * d * b)) h)) (mul-pos P P)
 
--- a / b ≤ G-as-R / L = c / d
+-- a / b ≤ G·R / L = c / d
 pub scaled_order : (a b c d G R L : ℕ) → 0 < L → c * L ≡ G * R * d → a * L ≤ G * R * b → a * d ≤ c * b
 scaled_order a b c d G R L P r h =
     le_of_mul-le-mul_right {k = L} (omega (arith, ap (λ (z : ℕ). z * b) r, mul-le-mul_right d h)) P

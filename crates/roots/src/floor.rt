@@ -3,7 +3,7 @@ ghost use Rattle.std.specs.Prelude.{◌≡◌, ◌+◌, ◌*◌, ◌^◌, ◌≤
 ghost use Rattle.roots.specs.Floor.{Floor};
 
 // base·2⁵² + low.
-#[derive(Drop)]
+#[derive(Clone, Copy)]
 struct Square {
     base: u64,
     low: u64,

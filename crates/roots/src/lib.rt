@@ -1,4 +1,6 @@
 // The root of x: the greatest binary64 whose exact square is not above x. For formulas: one NaN where 01 owes refusal 12.
+#![tactic(auto)]
+
 mod floor;
 
 ghost use Rattle.std.specs.Prelude.{◌≡◌, ◌*◌, ◌^◌, ◌≤◌, ◌<◌};

@@ -1,6 +1,8 @@
 // 02, M-101: a run of records at once. Each is answered as by the call on it alone, into eight bytes of its own.
 //
 // Units: K, mol/dm³, Pa.
+#![tactic(auto)]
+
 ghost use Rattle.std.specs.Prelude.{◌≡◌};
 ghost use Rattle.runs.specs.Answers.{permit_of, RunFits, each_output, each_code, run_code, run_output, run_codes};
 

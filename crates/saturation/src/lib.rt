@@ -1,4 +1,6 @@
 // 01, "Saturation estimates": pressure, liquid and vapour density at a temperature, of the fluid of a number. Units: K, Pa, mol/dm³.
+#![tactic(auto)]
+
 mod estimates;
 
 ghost use Rattle.std.specs.Prelude.{◌≡◌};

@@ -11,7 +11,7 @@ use Rattle.stability.specs.declared.Stability.{Stability}
 unfoldable pub isobaric_from : Stability → Float
 isobaric_from w = (entry_of w.fluid).R ⊗ (w.v ⊕ w.k ⊗ w.k ⊘ squash w.q)
 
--- root((R-as-T)/M·(Q + K·K/V))
+-- root((R·T)/M·(Q + K·K/V))
 unfoldable pub sound_speed_from : Stability → Float
 sound_speed_from w = root_of (((entry_of w.fluid).R ⊗ w.t) ⊘ (entry_of w.fluid).M ⊗ (w.q ⊕ w.k ⊗ w.k ⊘ squash w.v))
 
@@ -33,6 +33,6 @@ module _ (s : State) where
   unfoldable pub isobaric_value : Float
   isobaric_value = isobaric_from stability_of
 
-  -- root((R-as-T)/M·(Q + K·K/V))
+  -- root((R·T)/M·(Q + K·K/V))
   unfoldable pub sound_speed_value : Float
   sound_speed_value = sound_speed_from stability_of

@@ -1,4 +1,6 @@
 // 01, "With V, K, Q": V, K and Q of a state, and the two properties that divide by Q or by V. For formulas: one NaN where 12 is owed.
+#![tactic(auto)]
+
 ghost use Rattle.std.specs.Prelude.{◌≡◌};
 ghost use Rattle.stability.specs.Stability.{Q, stability_of, isobaric_from, sound_speed_from};
 
@@ -9,7 +11,7 @@ use ideal::i2;
 use roots::root;
 
 // V, K, Q of a state, with its fluid and its T.
-#[derive(Drop)]
+#[derive(Clone, Copy)]
 pub struct Stability {
     pub fluid: Fluid,
     pub t: f64,
@@ -57,7 +59,7 @@ pub fn isobaric_value(stability: Stability) -> f64
     squash(gas * (v + over(k * k, q)))
 }
 
-// root((R.T)/M·(Q + K·K/V)).
+// root((R·T)/M·(Q + K·K/V)).
 pub fn sound_speed_value(stability: Stability) -> f64
     ensures { result ≡ sound_speed_from stability }
 {

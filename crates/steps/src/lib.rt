@@ -1,6 +1,8 @@
 // 01, "Density steps are k·2⁻³⁰, exact": the density of a step, and the pressures at steps and at coarse ends.
 //
 // For formulas: no fluid has more than MOST_CELLS cells, and beyond them each of these is one NaN.
+#![tactic(auto)]
+
 ghost use Rattle.std.specs.Prelude.{◌≡◌};
 ghost use Rattle.search.specs.Plain.{at_ends};
 ghost use Rattle.steps.specs.Steps.{in_steps, step_density_of, pressure_in_steps};

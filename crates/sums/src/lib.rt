@@ -1,4 +1,6 @@
 // 01, "A term is one of three kinds" and "Sums of one state, six reals kept together", at a density of a kept temperature. For formulas.
+#![tactic(auto)]
+
 mod factors;
 mod rows;
 
@@ -12,7 +14,7 @@ use arithmetic::{both_finite, squash};
 use kept::Kept;
 
 // The six sums of a state.
-#[derive(Drop)]
+#[derive(Clone, Copy)]
 pub struct Sums {
     pub s0: f64,
     pub s1: f64,

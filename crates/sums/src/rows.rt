@@ -13,7 +13,7 @@ use exponentials::exp;
 use fluids::Term;
 
 // What a term gives at a state.
-#[derive(Drop)]
+#[derive(Clone, Copy)]
 pub struct Row {
     pub a: f64,
     pub q: f64,
@@ -23,7 +23,7 @@ pub struct Row {
 }
 
 // exp(−δ) and exp(−δ²), which the damped terms share.
-#[derive(Drop)]
+#[derive(Clone, Copy)]
 pub(crate) struct Damping {
     pub first: f64,
     pub second: f64,

@@ -2,6 +2,8 @@
 //
 // The fields of a line: the call, the bits of the two numbers, the code, and the second word of the
 // reply, or dashes where refused.
+#![tactic(auto)]
+
 ghost use Rattle.std.specs.Prelude.{◌≡◌, ◌+◌, ◌≤◌, length};
 
 use libc::{STDIN_FILENO, STDOUT_FILENO};

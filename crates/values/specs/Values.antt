@@ -15,15 +15,15 @@ module _ (s : State) where
   unfoldable pub i1 : Float
   i1 = I1 s.fluid s.t s.tau
 
-  -- (R-as-T)·(I1 + T1)
+  -- (R·T)·(I1 + T1)
   unfoldable pub energy_value : Float
   energy_value = ((entry_of s.fluid).R ⊗ s.t) ⊗ (i1 ⊕ s.sums.t1)
 
-  -- (R-as-T)·(I1 + T1 + S1 + 1)
+  -- (R·T)·(I1 + T1 + S1 + 1)
   unfoldable pub enthalpy_value : Float
   enthalpy_value = ((entry_of s.fluid).R ⊗ s.t) ⊗ (i1 ⊕ s.sums.t1 ⊕ s.sums.s1 ⊕ real 1)
 
-  -- R-as-V
+  -- R·V
   unfoldable pub isochoric_value : Float
   isochoric_value = (entry_of s.fluid).R ⊗ «V» s
 
@@ -35,10 +35,10 @@ module _ (s : State) where
   unfoldable pub gibbs_over_RT : Float
   gibbs_over_RT = real 1 ⊕ i0 ⊕ s.sums.s0 ⊕ s.sums.s1
 
-  -- (R-as-T)·(1 + I0 + S0 + S1)
+  -- (R·T)·(1 + I0 + S0 + S1)
   unfoldable pub gibbs_value : Float
   gibbs_value = ((entry_of s.fluid).R ⊗ s.t) ⊗ gibbs_over_RT
 
-  -- (R-as-T)·(I0 + S0)
+  -- (R·T)·(I0 + S0)
   unfoldable pub helmholtz_value : Float
   helmholtz_value = ((entry_of s.fluid).R ⊗ s.t) ⊗ (i0 ⊕ s.sums.s0)

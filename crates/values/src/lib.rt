@@ -1,4 +1,6 @@
 // 01, "With V, K, Q": the values of the properties of a state that need no K and no Q, one NaN where 12 is owed; the pressure is equation::pressure_at.
+#![tactic(auto)]
+
 ghost use Rattle.std.specs.Prelude.{◌≡◌};
 ghost use Rattle.values.specs.Values as Values;
 
@@ -6,7 +8,7 @@ use arithmetic::squash;
 use equation::State;
 use ideal::{i0, i1, i2};
 
-// (R.T)·(I1 + T1).
+// (R·T)·(I1 + T1).
 pub fn energy_value(state: State) -> f64
     ensures { result ≡ Values.energy_value state }
 {
@@ -20,7 +22,7 @@ pub fn energy_value(state: State) -> f64
     squash((gas * t) * (i1(fluid, t, tau) + t1))
 }
 
-// (R.T)·(I1 + T1 + S1 + 1).
+// (R·T)·(I1 + T1 + S1 + 1).
 pub fn enthalpy_value(state: State) -> f64
     ensures { result ≡ Values.enthalpy_value state }
 {
@@ -35,7 +37,7 @@ pub fn enthalpy_value(state: State) -> f64
     squash((gas * t) * (i1(fluid, t, tau) + t1 + s1 + 1.0))
 }
 
-// R.V.
+// R·V.
 pub fn isochoric_value(state: State) -> f64
     ensures { result ≡ Values.isochoric_value state }
 {
@@ -80,7 +82,7 @@ pub fn gibbs_over_rt(state: State) -> f64
     squash(1.0 + i0(fluid, t, tau, y, delta) + s0 + s1)
 }
 
-// (R.T)·(1 + I0 + S0 + S1).
+// (R·T)·(1 + I0 + S0 + S1).
 pub fn gibbs_value(state: State) -> f64
     ensures { result ≡ Values.gibbs_value state }
 {
@@ -91,7 +93,7 @@ pub fn gibbs_value(state: State) -> f64
     squash((gas * t) * gibbs_over_rt(state))
 }
 
-// (R.T)·(I0 + S0).
+// (R·T)·(I0 + S0).
 pub fn helmholtz_value(state: State) -> f64
     ensures { result ≡ Values.helmholtz_value state }
 {

@@ -1,4 +1,6 @@
 // The calls for C, thin over the crates that do the work: include/verriblom.h says what each is asked and answers.
+#![tactic(auto)]
+
 ghost use Rattle.std.specs.Prelude.{◌≡◌};
 ghost use Rattle.refusals.specs.declared.Permit.TheVariants.{Denied};
 ghost use Rattle.refusals.specs.Code.{permit_code_of};

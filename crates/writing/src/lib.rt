@@ -1,4 +1,6 @@
 // 02, M-103: writing records: 18 bytes at a place of a lent buffer, from a kind, a fluid and two numbers given as their 64 bits.
+#![tactic(auto)]
+
 ghost use Rattle.std.specs.Prelude.{◌≡◌, leb, ◌+◌};
 ghost use Rattle.writing.specs.Write.{written_at, written_of, write_of};
 
