@@ -29,17 +29,10 @@ typedef void candidate(void);
         (candidate *)bench_##name, (candidate *)naive_##name, (candidate *)c_o2_##name,                               \
             (candidate *)c_o3_##name, (candidate *)rust_##name                                                        \
     }
-/* Where C and Rust have another function than the package. */
-#define BESIDE(name, other)                                                                                           \
-    {                                                                                                                 \
-        (candidate *)bench_##name, NULL, (candidate *)c_o2_##other, (candidate *)c_o3_##other,                        \
-            (candidate *)rust_##other                                                                                 \
-    }
 
 DECLARE(double, exp, double)
 DECLARE(double, ln, double)
 DECLARE(double, root, double)
-DECLARE(double, sixteen_steps, double)
 DECLARE(double, pressure, uint32_t, double, double)
 DECLARE(double, entropy, uint32_t, double, double)
 DECLARE(double, isobaric, uint32_t, double, double)

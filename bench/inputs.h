@@ -136,8 +136,7 @@ static int ln_edges(const struct fluid *fluid, double *edge) {
 
 static int root_edges(const struct fluid *fluid, double *edge) {
     (void)fluid;
-    return WRITTEN(edge, OUTSIDE, -1.0, 1.0, after(1.0), 2.0, before(4.0), 4.0, 65536.0, before(65536.0), 1e8, before(1.0),
-                   after(1e8));
+    return WRITTEN(edge, OUTSIDE, -1.0, 1.0, 65536.0, 1e8, before(1.0), after(1e8));
 }
 
 /* The ends of the ranges, the doubles next to them, unstable states, and what is no number. */

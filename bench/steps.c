@@ -1,11 +1,10 @@
-/* exp, ln, root and the sixteen steps that it was, for the clock to call. */
+/* exp, ln and root, for the clock to call. */
 #include "named.h"
 #include "steps.h"
 
 double NAMED(exp)(double x);
 double NAMED(ln)(double x);
 double NAMED(root)(double x);
-double NAMED(sixteen_steps)(double x);
 
 double NAMED(exp)(double x) {
     return exp_of(x);
@@ -17,8 +16,4 @@ double NAMED(ln)(double x) {
 
 double NAMED(root)(double x) {
     return root_of(x);
-}
-
-double NAMED(sixteen_steps)(double x) {
-    return sixteen_steps_of(x);
 }

@@ -150,26 +150,6 @@ static double quick_worked(uint32_t number, const double *input) {
     return worked_quickly();
 }
 
-/* ---- how a value stands to the package's */
-
-typedef int relation(double package, double other);
-
-static uint64_t bits_of(double x) {
-    uint64_t bits;
-    memcpy(&bits, &x, sizeof bits);
-    return bits;
-}
-
-/* The steps have one NaN, and a processor many: which one stands for it is not compared. */
-static int same(double a, double b) {
-    return bits_of(a) == bits_of(b) || (isnan(a) && isnan(b));
-}
-
-/* The same, or the double after it; of numbers above 0, whose patterns have their order. */
-static int same_or_next(double package, double other) {
-    return same(package, other) || bits_of(other) == bits_of(package) + 1;
-}
-
 /* ---- lines */
 
 struct line {
@@ -182,34 +162,30 @@ struct line {
     sum *sum;
     pressures *worked;
     candidate *by[CANDIDATES];
-    /* Of C's value and of Rust's to the package's. */
-    relation *relation;
     edges *edges;
     /* How many inputs are timed: a search takes a thousand times as long as a pressure. */
     int timed;
 };
 
 static const struct line lines[] = {
-    {"exp", "-50 .. 50", 0, 1, draw_exp_near, sum_of_one, none_worked, ALL_BUT_NAIVE(exp), same, no_edges, INPUTS},
-    {"exp", "-700 .. 700", 0, 1, draw_exp_far, sum_of_one, none_worked, ALL_BUT_NAIVE(exp), same, exp_edges, INPUTS},
-    {"ln", "2^-60 .. 2^60", 0, 1, draw_ln, sum_of_one, none_worked, ALL_BUT_NAIVE(ln), same, ln_edges, INPUTS},
-    {"root", "1 .. 1e8", 0, 1, draw_root, sum_of_one, none_worked, ALL_BUT_NAIVE(root), same, root_edges, INPUTS},
-    {"root, beside sixteen steps", "1 .. 1e8", 0, 1, draw_root, sum_of_one, none_worked, BESIDE(root, sixteen_steps),
-     same_or_next, root_edges, INPUTS},
-    {"pressure", "states", FLUIDS, 2, draw_state, sum_of_states, one_worked, ALL_OF(pressure), same, state_edges, INPUTS},
-    {"entropy", "states", FLUIDS, 2, draw_state, sum_of_states, one_worked, ALL_OF(entropy), same, state_edges, INPUTS},
-    {"isobaric heat capacity", "states", FLUIDS, 2, draw_state, sum_of_states, one_worked, ALL_OF(isobaric), same, state_edges,
+    {"exp", "-50 .. 50", 0, 1, draw_exp_near, sum_of_one, none_worked, ALL_BUT_NAIVE(exp), no_edges, INPUTS},
+    {"exp", "-700 .. 700", 0, 1, draw_exp_far, sum_of_one, none_worked, ALL_BUT_NAIVE(exp), exp_edges, INPUTS},
+    {"ln", "2^-60 .. 2^60", 0, 1, draw_ln, sum_of_one, none_worked, ALL_BUT_NAIVE(ln), ln_edges, INPUTS},
+    {"root", "1 .. 1e8", 0, 1, draw_root, sum_of_one, none_worked, ALL_BUT_NAIVE(root), root_edges, INPUTS},
+    {"pressure", "states", FLUIDS, 2, draw_state, sum_of_states, one_worked, ALL_OF(pressure), state_edges, INPUTS},
+    {"entropy", "states", FLUIDS, 2, draw_state, sum_of_states, one_worked, ALL_OF(entropy), state_edges, INPUTS},
+    {"isobaric heat capacity", "states", FLUIDS, 2, draw_state, sum_of_states, one_worked, ALL_OF(isobaric), state_edges,
      INPUTS},
-    {"sound speed", "states", FLUIDS, 2, draw_state, sum_of_states, one_worked, ALL_OF(sound_speed), same, state_edges, INPUTS},
-    {"pressure", "densities at 400 K", FLUIDS, 1, draw_density, sum_along, one_worked, ALL_OF(isotherm), same, density_edges,
+    {"sound speed", "states", FLUIDS, 2, draw_state, sum_of_states, one_worked, ALL_OF(sound_speed), state_edges, INPUTS},
+    {"pressure", "densities at 400 K", FLUIDS, 1, draw_density, sum_along, one_worked, ALL_OF(isotherm), density_edges,
      INPUTS},
-    {"plain search", "from below", FLUIDS, 2, draw_question, sum_of_below, below_worked, ALL_BUT_NAIVE(plain), same,
+    {"plain search", "from below", FLUIDS, 2, draw_question, sum_of_below, below_worked, ALL_BUT_NAIVE(plain),
      question_edges, 16},
-    {"plain search", "from above", FLUIDS, 2, draw_question, sum_of_above, above_worked, ALL_BUT_NAIVE(plain), same,
+    {"plain search", "from above", FLUIDS, 2, draw_question, sum_of_above, above_worked, ALL_BUT_NAIVE(plain),
      question_edges, 16},
-    {"preparation", "temperatures", FLUIDS, 1, draw_temperature, sum_of_lists, lists_worked, ALL_BUT_NAIVE(prepare), same,
+    {"preparation", "temperatures", FLUIDS, 1, draw_temperature, sum_of_lists, lists_worked, ALL_BUT_NAIVE(prepare),
      temperature_edges, 4},
-    {"quick search", "pressures at 400 K", FLUIDS, 1, draw_pressure, sum_of_quick, quick_worked, ALL_BUT_NAIVE(quick), same,
+    {"quick search", "pressures at 400 K", FLUIDS, 1, draw_pressure, sum_of_quick, quick_worked, ALL_BUT_NAIVE(quick),
      pressure_edges, 256},
 };
 enum { LINES = sizeof lines / sizeof *lines };
@@ -228,7 +204,18 @@ static void draw_inputs(const struct line *line, uint32_t number) {
         line->draw(number, inputs[number] + i * line->width);
 }
 
-/* ---- the check: all candidates give the same bits, or those that the line says */
+/* ---- the check: all candidates give the same bits */
+
+static uint64_t bits_of(double x) {
+    uint64_t bits;
+    memcpy(&bits, &x, sizeof bits);
+    return bits;
+}
+
+/* The steps have one NaN, and a processor many: which one stands for it is not compared. */
+static int same(double a, double b) {
+    return bits_of(a) == bits_of(b) || (isnan(a) && isnan(b));
+}
 
 static double value(const struct line *line, int by, uint32_t number, const double *input) {
     return line->sum(line->by[by], number, input, 1);
@@ -244,15 +231,14 @@ static void say_different(const struct line *line, uint32_t number, const double
     printf("\n");
 }
 
-/* C and Rust are compared with the package, and among themselves. */
 static int agreed(const struct line *line, uint32_t number, const double *input) {
-    double package = value(line, PACKAGE, number, input), other = value(line, C_O2, number, input);
-    int agree = line->relation(package, other);
+    double expected = value(line, PACKAGE, number, input);
     for (int by = 1; by < CANDIDATES; by++)
-        agree = agree && (!line->by[by] || same(other, value(line, by, number, input)));
-    if (!agree)
-        say_different(line, number, input);
-    return agree;
+        if (line->by[by] && !same(expected, value(line, by, number, input))) {
+            say_different(line, number, input);
+            return 0;
+        }
+    return 1;
 }
 
 /* A timed input without a value would leave by the range test and count as a quick call. */
@@ -311,8 +297,7 @@ static int all_checked(void) {
         if (!checked(lines + k, &compared))
             return 0;
     printf("all candidates give the same bits on all %d timed inputs, on %d more at the ends of the ranges\n"
-           "and outside, and on %d for numbers that no fluid has; the sixteen steps among themselves, and they give\n"
-           "the package's root or the double after it\n",
+           "and outside, and on %d for numbers that no fluid has\n",
            compared.timed, compared.edges, compared.unknown);
     return 1;
 }

@@ -7,7 +7,6 @@
 int main(void)
 {
     check_arithmetic();
-    check_root();
     check_equation();
     check_tables();
     check_stability();

@@ -56,24 +56,6 @@ static uint64_t ln_argument(struct generator *g)
     }
 }
 
-/* A side of 1 to 26 digits, whose square is a number itself: where the root steps to the next number. */
-static double side_of_few_digits(struct generator *g)
-{
-    uint64_t cut = 27 + below(g, 26);
-    return number_of(log_uniform(g, 1, 1e4) >> cut << cut);
-}
-
-static double whole_side(struct generator *g)
-{
-    return 1 + (double)below(g, 10000);
-}
-
-static uint64_t about_square(struct generator *g, double side)
-{
-    return nearby(g, side * side);
-}
-
-/* The last ones are even in the logarithm, so that every size from 2⁰ to 2²⁶ is met. */
 static uint64_t root_argument(struct generator *g)
 {
     switch (below(g, 10)) {
@@ -83,15 +65,15 @@ static uint64_t root_argument(struct generator *g)
         return special(g);
     case 2:
         return any_bits(g);
-    case 3:
-        return about_square(g, whole_side(g));
+    case 3: {
+        double side = 1 + (double)below(g, 10000);
+        return nearby(g, side * side);
+    }
     case 4:
-        return about_square(g, side_of_few_digits(g));
-    case 5:
         return either_sign(g, log_uniform(g, 0x1p-1074, 1e8));
-    case 6:
+    case 5:
         return uniform(g, 0, 1000);
-    case 7:
+    case 6:
         return uniform(g, 1, 1e8);
     default:
         return log_uniform(g, 1, 1e8);

@@ -1,7 +1,5 @@
-/* 01, "Arithmetic", step by step; the root by what M-106 says that it is. */
+/* 01, "Arithmetic", step by step. */
 #include "arithmetic.h"
-
-#include "bits.h"
 
 #include <float.h>
 #include <stdbool.h>
@@ -59,46 +57,14 @@ double ln_value(double x)
     return (2 * z) * H + e * 0.6931471805599453;
 }
 
-/* A number from 1 on as whole·2^power, the whole of 53 digits. */
-struct scaled {
-    uint64_t whole;
-    int power;
-};
-
-static struct scaled scaled_of(uint64_t bits)
-{
-    uint64_t first_digit = (uint64_t)1 << 52;
-    return (struct scaled){ .whole = first_digit | (bits & (first_digit - 1)), .power = (int)(bits >> 52) - 1075 };
-}
-
-/* Whether r·r > x, asked of whole numbers. With r up to 10⁴ and x from 1 on the shift is 26 or more. */
-static bool square_is_above(struct scaled r, struct scaled x)
-{
-    int shift = x.power - 2 * r.power;
-    /* The square of r's whole is below 2¹⁰⁶, and x's whole is not below 2⁵². */
-    if (shift >= 54)
-        return false;
-    return (unsigned __int128)r.whole * r.whole > (unsigned __int128)x.whole << shift;
-}
-
-/*
- * M-106: the greatest number whose square is not above x. The patterns of positive numbers rise with the numbers, so the last
- * one that has it is found by halving, from the pattern of 1, which has it, to the next after that of 10⁴, which has not.
- */
 double root_value(double x)
 {
     if (!within(x, 1, 1e8))
         return NAN;
-    struct scaled argument = scaled_of(bits_of(x));
-    uint64_t has_it = bits_of(1), has_not = bits_of(1e4) + 1;
-    while (has_not - has_it > 1) {
-        uint64_t middle = has_it + (has_not - has_it) / 2;
-        if (square_is_above(scaled_of(middle), argument))
-            has_not = middle;
-        else
-            has_it = middle;
-    }
-    return number_of(has_it);
+    double y = 256;
+    for (int step = 0; step < 16; step++)
+        y = (y + x / y) / 2;
+    return y;
 }
 
 double power_value(double x, double t)

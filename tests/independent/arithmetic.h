@@ -1,5 +1,5 @@
 /*
- * 01, "Arithmetic": exp, ln and powers; the root as M-106 has it.
+ * 01, "Arithmetic": exp, ln, root and powers.
  *
  * Refusal 12 is owed if any value of a formula is not finite. Sums,
  * differences and products of a value that is not finite are not finite

@@ -6,6 +6,16 @@
 
 enum { POINTS = 200000 };
 
+static double upward(double x)
+{
+    return nextafter(x, INFINITY);
+}
+
+static double downward(double x)
+{
+    return nextafter(x, -INFINITY);
+}
+
 static void check_cases(void)
 {
     check(answered_with(1, exp_answer(0)), "case a: exp 0 is 1");
@@ -74,13 +84,13 @@ static void check_closeness(const struct comparison *c)
 
 static void check_library(void)
 {
-    /* exp squares ten times, which multiplies the error of H by 1024; the root is less than one unit below. */
+    /* exp squares ten times, which multiplies the error of H by 1024. */
     static const struct comparison comparisons[] = {
         { "exp up to 1", exp_answer, expl, 0x1p-60, 1, true, 1e-12 },
         { "exp up to 700", exp_answer, expl, 1, 700, true, 1e-12 },
         { "ln about 1", ln_answer, logl, 0.75, 1.5, false, 1e-15 },
         { "ln", ln_answer, logl, 0x1p-60, 0x1p60, false, 1e-15 },
-        { "root", root_answer, sqrtl, 1, 1e8, false, 0x1p-52 },
+        { "root", root_answer, sqrtl, 1, 1e8, false, 1e-15 },
     };
     for (size_t i = 0; i < sizeof comparisons / sizeof *comparisons; i++)
         check_closeness(&comparisons[i]);

@@ -33,16 +33,6 @@ bool close_to(double a, double b, double relative)
     return fabs(a - b) <= relative * fmax(fabs(a), fabs(b));
 }
 
-double upward(double x)
-{
-    return nextafter(x, INFINITY);
-}
-
-double downward(double x)
-{
-    return nextafter(x, -INFINITY);
-}
-
 bool prints_as(const char *printed, double value)
 {
     const char *point = strchr(printed, '.');

@@ -18,10 +18,6 @@ __attribute__((format(printf, 2, 3))) void check(bool holds, const char *format,
 bool same_bits(double a, double b);
 bool close_to(double a, double b, double relative);
 
-/* The next number above and the next below. */
-double upward(double x);
-double downward(double x);
-
 /* Equal when written with as many decimals as are printed. */
 bool prints_as(const char *printed, double value);
 
@@ -31,7 +27,6 @@ bool answered_with(double value, struct outcome outcome);
 bool is_answered(struct outcome outcome);
 
 void check_arithmetic(void);
-void check_root(void);
 void check_equation(void);
 void check_tables(void);
 void check_stability(void);

@@ -1,6 +1,5 @@
 /* The random questions: the same from one seed, mostly permitted, of every number, meeting each code of a call. */
 #include "../generator.h"
-#include "../independent/arithmetic.h"
 #include "../independent/bits.h"
 #include "../independent/density.h"
 #include "../independent/equation.h"
@@ -123,41 +122,6 @@ static void check_codes(uint64_t number)
     check_met(&met, REFUSED_NOT_A_NUMBER);
 }
 
-static bool is_square(double x)
-{
-    double root = root_value(x);
-    return fma(root, root, -x) == 0;
-}
-
-/* The root's questions meet both ends of its range, squares, the numbers next to squares, and every size. */
-static void check_roots_met(void)
-{
-    enum { ROOT = 3, SIZES = 27 };
-    const uint64_t number = ROOT;
-    struct generator g = generator_of(number, &number, 1);
-    unsigned of_size[SIZES] = { 0 }, ends[2] = { 0 }, wholes = 0, others = 0, next_below = 0, next_above = 0;
-    for (int i = 0; i < QUESTIONS; i++) {
-        double x = number_of(next_question(&g).first);
-        if (isnan(root_value(x)))
-            continue;
-        of_size[ilogb(x)]++;
-        ends[0] += x == 1;
-        ends[1] += x == 1e8;
-        wholes += is_square(x) && x == floor(x);
-        others += is_square(x) && x != floor(x);
-        next_below += is_square(upward(x));
-        next_above += is_square(downward(x));
-    }
-    for (int size = 0; size < SIZES; size++)
-        check(of_size[size] >= EACH_AT_LEAST, "root: %u of %d questions are from 2^%d on", of_size[size], QUESTIONS, size);
-    check(ends[0] >= EACH_AT_LEAST && ends[1] >= EACH_AT_LEAST, "root: 1 is asked %u times and 10^8 %u times", ends[0],
-          ends[1]);
-    check(wholes >= EACH_AT_LEAST && others >= EACH_AT_LEAST, "root: %u whole squares and %u others of %d", wholes, others,
-          QUESTIONS);
-    check(next_below >= EACH_AT_LEAST && next_above >= EACH_AT_LEAST,
-          "root: %u numbers next below a square and %u next above of %d", next_below, next_above, QUESTIONS);
-}
-
 /* The word's questions meet each word, and below Tc densities close to the critical one on both sides of it. */
 static void check_words_met(uint64_t number)
 {
@@ -246,7 +210,6 @@ void check_generator(void)
     struct numbers all = known_numbers();
     check_mixed();
     check_unknown_numbers();
-    check_roots_met();
     for (size_t i = 0; i < all.count; i++) {
         check_codes(all.number[i]);
         if (known_call(all.number[i])->family == PLAIN_WORD)

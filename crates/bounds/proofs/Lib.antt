@@ -6,7 +6,6 @@ pub mod CCall
 pub mod Potentials
 pub mod Stable
 pub mod NoAnswer
-pub mod Roots
 pub mod Codes
 pub mod Estimated
 pub mod Numbered

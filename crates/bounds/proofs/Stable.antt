@@ -36,7 +36,7 @@ use Rattle.intervals.proofs.Fractions.{is_true, holds, chain, order_of_test}
 use Rattle.intervals.proofs.Representable.{sum_fits, product_fits, sum_is, summands_finite}
 use Rattle.ranges.proofs.Rows.{s2_fits}
 use Rattle.intervals.proofs.Cancellation.{Large, Apart, zero_test, denominator, sum_apart, one_apart}
-use Rattle.roots.proofs.Greatest.{root_in_range, root_outside}
+use Rattle.intervals.proofs.Elementary.{root_in_range, root_outside}
 use Rattle.ranges.proofs.Estimates.{finite_two⁻54}
 use Rattle.intervals.proofs.Sum.{neg_finite}
 use Rattle.bounds.proofs.Permits.{refused_granted, state_denied}
@@ -107,7 +107,7 @@ module _ (F : Fluid) (t ρ : Float) where
 
   -- ---- sound speed
   -- its value is the root of the argument
-  pub sound_speed_is : sound_speed_value (state_at F t (worked_density ρ)) ≡ root_of (root_argument F t ρ)
+  sound_speed_is : sound_speed_value (state_at F t (worked_density ρ)) ≡ root_of (root_argument F t ρ)
   unfolding sound_speed_value sound_speed_from stability_of «V» state_of
   sound_speed_is = simp (⊖_squashed, kept_fluid, kept_t)
 

@@ -1,4 +1,3 @@
 pub mod NoAnswer
-pub mod Roots
 pub mod Records
 pub mod Pairs

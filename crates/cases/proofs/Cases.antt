@@ -4,8 +4,7 @@ use lib.Ieee.{is_nan, add, sub, mul, div, neg, of_int, round, of_bits, to_bits, 
 use Rattle.arithmetic.specs.Checked.{within, minus, ◌▷◌, ◌⊕◌, ◌⊖◌, ◌⊗◌, ◌⊘◌}
 use Rattle.exponentials.specs.Exp.{exp_steps, squared, exp_work, exp_of}
 use Rattle.logarithms.specs.Ln.{m_of, e_of, ln_steps, ln_work, ln_of}
-use Rattle.roots.specs.Floor.{◌▸◌, floor_root}
-use Rattle.roots.specs.Root.{root_bits, root_of}
+use Rattle.roots.specs.Root.{root_steps, root_of}
 use Rattle.elementary.specs.Power.{◌↑◌}
 use Rattle.fluids.specs.R245ca.{r245ca}
 use Rattle.fluids.specs.Entries.{entry_of}
@@ -25,7 +24,7 @@ use Rattle.cases.specs.Table.{Hold, cases}
 
 pub cases_hold : Hold cases
 unfolding
-    exp_of exp_work exp_steps squared within minus ◌▷◌ ◌⊕◌ ◌⊗◌ ◌⊘◌ ln_of ln_work ln_steps m_of e_of ◌⊖◌ root_of root_bits floor_root ◌▸◌
+    exp_of exp_work exp_steps squared within minus ◌▷◌ ◌⊕◌ ◌⊗◌ ◌⊘◌ ln_of ln_work ln_steps m_of e_of ◌⊖◌ root_of root_steps
     pressure_of state_permit worked_density pressure_value state_of kept_of sums_at sums_to sums_first row_first row_of
     row_at x_at bell_at power_at ◌↑◌ entry_of r245ca entropy_of potential_permit plain_of search_permit quick_of prepare_of
     prepare_permit greatest_list filled some_not_finite greatest greater_of least_list least_of_next lesser_of cell_from_below

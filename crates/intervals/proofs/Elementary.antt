@@ -1,4 +1,4 @@
--- exp, ln and root refuse with 12 exactly outside their stated ranges: those of exp and ln are worked as one interval each, and it is known; in the root's there is a root.
+-- exp, ln and root refuse with 12 exactly outside their stated ranges: each range is worked as one interval, and it is known.
 use mathlib.Core.Path.{◌≡◌, refl}
 use mathlib.Core.Logic.{◌↔◌}
 use mathlib.Core.Bool.{Bool, true, false, cond, true≢false}
@@ -14,27 +14,30 @@ use Rattle.refusals.specs.declared.Refusal.TheVariants.{InputNotFinite, WorkNotF
 use Rattle.refusals.specs.declared.Answer.TheVariants.{Refused}
 use Rattle.arithmetic.specs.Checked.{real, ◌e-◌, two⁻, minus, between, within}
 use Rattle.exponentials.specs.Exp.{exp_of}
-use Rattle.arithmetic.specs.Fields.{digits, field}
-use Rattle.logarithms.specs.Ln.{m_field, m_of, e_of, ln_work, ln_of}
+use Rattle.logarithms.specs.Ln.{digits, field, m_field, m_of, e_of, ln_work, ln_of}
 use Rattle.roots.specs.Root.{root_of}
 use Rattle.arithmetic.specs.Answered.{answer_from}
 use Rattle.elementary.specs.Calls.{called_of, exponential_of, logarithm_of, square_root_of}
 use Rattle.logarithms.proofs.Fields.{m_field_small}
 use Rattle.exponentials.proofs.Literals.{finite_700, finite_minus_700}
-use Rattle.roots.proofs.Greatest.{root_in_range, root_outside}
+use Rattle.roots.proofs.Literals.{finite_1, finite_1e8}
 use Rattle.refusals.proofs.Tests.{by}
 use Rattle.refusals.proofs.Apart.{number≢refused}
 use Rattle.intervals.proofs.Fractions.{holds}
 use Rattle.intervals.proofs.Rounding.{round_anti, signs_apart}
 use Rattle.intervals.proofs.Interval.{interval, tested, known, in_known}
-use Rattle.intervals.proofs.Functions.{exp_over, ⟨exp⟩}
+use Rattle.intervals.proofs.Functions.{exp_over, root_over, ⟨exp⟩, ⟨root⟩}
 use Rattle.intervals.proofs.Opened.{opened}
 use Rattle.intervals.proofs.Logarithm.{ln_work_over, ln_work_lem, m_anywhere}
 
--- ---- exp from −700 to 700
+-- ---- exp from −700 to 700, root from 1 to 10⁸
 exp_known : T (known (exp_over (interval (minus (real 700)) (real 700))))
 unfolding opened
 exp_known = tt
+
+root_known : T (known (root_over (interval (real 1) (real (10 ^ 8)))))
+unfolding opened
+root_known = tt
 
 -- ---- ln wherever m and e are
 ln_known : T (known (ln_work_over (interval (75 e- 2) (15 e- 1)) (interval (of_int binary64 (negsuc 1023)) (of_int binary64 (pos 2048)))))
@@ -97,6 +100,16 @@ module _ (x : Float) where
   pub ln_outside : between (two⁻ 60) x (real (2 ^ 60)) ≡ false → ln_of x ≡ nan
   unfolding ln_of within
   ln_outside p = rw p
+
+  pub root_in_range : between (real 1) x (real (10 ^ 8)) ≡ true → T (finite (root_of x))
+  root_in_range p =
+      let t = holds (between (real 1) x (real (10 ^ 8))) p in
+      in_known root_known
+      (⟨root⟩ (tested (real 1) (real (10 ^ 8)) x finite_1 finite_1e8 (and_l (le (real 1) x) (le x (real (10 ^ 8))) t) (and_r (le (real 1) x) (le x (real (10 ^ 8))) t)))
+
+  pub root_outside : between (real 1) x (real (10 ^ 8)) ≡ false → root_of x ≡ nan
+  unfolding root_of within
+  root_outside p = rw p
 
 -- ---- the calls
 -- a call at x with a value that is a number in the range and `nan` outside it

@@ -14,8 +14,8 @@ use lib.Ieee.Order.{round_mono}
 use lib.Ieee.Positive.{num, den, positive, den_pos, le→cross, cross→le, between}
 use Rattle.arithmetic.specs.Checked.{◌e-◌}
 use Rattle.logarithms.specs.Ln.{Split}
-use Rattle.arithmetic.proofs.Order.{lt→le, lt→cross}
-use Rattle.logarithms.proofs.ExactSplit.{two_at_least}
+use Rattle.logarithms.proofs.ExactSplit.{lt→cross, two_at_least}
+use Rattle.arithmetic.proofs.Order.{lt→le}
 use Rattle.intervals.proofs.Rounding.{round_anti, signs_apart}
 use Rattle.intervals.proofs.Interval.{at}
 

@@ -1,17 +1,19 @@
--- exp and powers of values in intervals lie in the interval worked by the same steps.
+-- exp, root and powers of values in intervals lie in the interval worked by the same steps.
 use mathlib.Core.Path.{◌≡◌, refl}
 use mathlib.Core.Bool.{Bool, true, false, cond}
-use Prim.Native.Nat.{ℕ, zero, suc}
+use Prim.Native.Nat.{ℕ, zero, suc, ◌^◌}
 use lib.Dec.{T}
 use lib.Ieee.{Float, eq, le}
 use lib.Ieee.Scale.{finite}
 use Rattle.arithmetic.specs.Checked.{real, two⁻, minus, within, ◌⊗◌}
 use Rattle.exponentials.specs.Exp.{exp_steps, squared, exp_work, exp_of}
 use Rattle.logarithms.specs.Ln.{ln_of}
+use Rattle.roots.specs.Root.{root_steps, root_of}
 use Rattle.elementary.specs.Power.{power_of, ◌↑◌}
 use Rattle.arithmetic.proofs.Forced.{forced}
 use Rattle.arithmetic.proofs.Within.{within_in}
 use Rattle.exponentials.proofs.Literals.{finite_700, finite_minus_700}
+use Rattle.roots.proofs.Literals.{finite_1, finite_1e8}
 use Rattle.intervals.proofs.Fractions.{is_true}
 use Rattle.intervals.proofs.Interval.{Interval, In, point, at, hull, hull_left, hull_right, ◌▶◌, computed, lies, lies_in}
 use Rattle.intervals.proofs.Sum.{◌⊞◌, ◌⟨⊕⟩◌}
@@ -73,3 +75,20 @@ unfolding power_over power_of
     go : (b : Bool) → (b ≡ false → In L (ln_of x)) → In (hull (point (real 0)) (exp_over (point t ⊠ L))) (cond b (real 0) (exp_of (t ⊗ ln_of x)))
     go true k = hull_left (exp_over (point t ⊠ L)) (at (real 0))
     go false k = hull_right (point (real 0)) (⟨exp⟩ (at t ⟨⊗⟩ k refl))
+
+-- ---- root
+unfoldable pub root_steps_over : ℕ → Interval → Interval → Interval
+root_steps_over zero X Y = Y
+root_steps_over (suc n) X Y = (Y ⊞ X ÷ Y) ÷ point (real 2) ▶ root_steps_over n X
+
+root_steps_lem : {X Y : Interval} {x y : Float} (n : ℕ) → In X x → In Y y → In (root_steps_over n X Y) (root_steps n x y)
+unfolding root_steps_over root_steps
+root_steps_lem zero a b = b
+root_steps_lem (suc n) a b = simp (computed, forced) (root_steps_lem n a ((b ⟨⊕⟩ a ⟨⊘⟩ b) ⟨⊘⟩ at (real 2)))
+
+unfoldable pub root_over : Interval → Interval
+root_over X = only_if (lies (real 1) X (real (10 ^ 8))) (root_steps_over 16 X (point (real 256)))
+
+pub ⟨root⟩ : {X : Interval} {x : Float} → In X x → In (root_over X) (root_of x)
+unfolding root_over root_of
+⟨root⟩ a = within_holds (real 1) (real (10 ^ 8)) finite_1 finite_1e8 a (root_steps_lem 16 a (at (real 256)))

@@ -1,26 +1,35 @@
 -- Every x from 2⁻⁶⁰ to 2⁶⁰ is m·2ᵉ with 0.75 ≤ m < 1.5 for `m_of x` and `e_of x`, and for no other m and e: each value is compared as its fraction num / den, which its fields show.
 use mathlib.Core.Path.{◌≡◌, refl, sym, ap, ◌∙◌, subst}
 use mathlib.Core.Bool.{Bool, true, false, not, cond}
-use Prim.Native.Nat.{ℕ, zero, suc, ◌+◌, ◌-◌, ◌*◌, ◌^◌, ◌≤◌, ◌<◌}
-use native.Mathlib.Nat.{suc_inj, mul-le-mul_right, mul-pos, add-zero, one-mul, eq_of_mul-eq-mul_right, le_of_mul-le-mul_right, pow-succ'}
+use Prim.Native.Nat.{ℕ, zero, suc, ◌+◌, ◌-◌, ◌*◌, ◌/◌, ◌^◌, ◌≤◌, ◌<◌}
+use native.Mathlib.Nat.{suc_inj, mul-le-mul_right, mul_right_comm, mul-pos, add-zero, one-mul, eq_of_mul-eq-mul_right, le_of_mul-le-mul_right, pow-succ'}
 use native.Mathlib.Omega.{arith}
-use lib.Dec.{T, ltb, ltb→lt, nltb→le}
+use lib.Dec.{T, ltb, ltb→lt, lt→ltb, nltb→le}
 use lib.IntN.{ℤ, pos, negsuc, ◌-ℤ◌}
 use lib.Pow.{pow_pos, pow-add, pow_mono}
-use lib.Ieee.{Float, fin, binary64, up, down, to_bits, fits, round, of_int, add, sum, le, lt}
+use lib.Ieee.{Float, fin, binary64, up, down, to_bits, of_bits, fits, round, of_int, add, sum, le, lt}
+use lib.Ieee.Bits.{of_bits-to_bits}
 use lib.Ieee.Digits.{back}
 use lib.Ieee.Fits.{up_pos, down_pos}
+use lib.Ieee.Nearest.{div_same}
 use lib.Ieee.Order.{round_mono}
 use lib.Ieee.Scale.{finite}
 use lib.Ieee.Positive.{num, den, positive, den_pos, positive-finite, positive_of_value, value→cross, le→cross, cross→le, between}
 use Rattle.arithmetic.specs.Checked.{real, ◌e-◌, two⁻}
-use Rattle.arithmetic.specs.Fields.{digits, field}
-use Rattle.arithmetic.proofs.Order.{lt→le, lt→cross, cross→lt}
-use Rattle.arithmetic.proofs.Fields.{bits_from, bits_below, pattern_value, own_fields_value, same_value_same}
-use Rattle.logarithms.specs.Ln.{Split, m_field, m_of, e_of}
-use Rattle.logarithms.proofs.Fields.{m_field_small, m_field_positive, m_units, m_value, m_units_between}
+use Rattle.arithmetic.proofs.Order.{lt→le}
+use Rattle.logarithms.specs.Ln.{Split, digits, field, m_field, m_of, e_of}
+use Rattle.logarithms.proofs.Fields.{pattern, bits_of_value, bits_normal, pattern_value, own_fields_value, m_field_small, m_field_positive, m_units, m_value, m_units_between}
 
--- ---- 0.75 ≤ m < 1.5, as an order of fractions: 3 / 4 ≤ num / den < 3 / 2
+-- ---- 0.75 ≤ m < 1.5, as an order of fractions
+pub lt→cross : (x y : Float) → T (positive x) → T (positive y) → T (lt x y) → num x * den y < num y * den x
+unfolding lt
+lt→cross (fin false m e) (fin false n d) p q h = ltb→lt (m * up e * down d) (n * up d * down e) h
+
+cross→lt : (x y : Float) → T (positive x) → T (positive y) → num x * den y < num y * den x → T (lt x y)
+unfolding lt
+cross→lt (fin false m e) (fin false n d) p q h = lt→ltb (m * up e * down d) (n * up d * down e) h
+
+-- 3 / 4 ≤ num / den < 3 / 2
 record Range (m : Float) : Type 0 where
   above_zero : T (positive m)
   least : 3 * den m ≤ num m * 4
@@ -99,9 +108,7 @@ normal x l h =
     let l' : T (le (two⁻ 60) x) = subst T (sym l) tt in
     let h' : T (le x (real (2 ^ 60))) = subst T (sym h) tt in
     let p : T (positive x) = between (two⁻ 60) x (real (2 ^ 60)) tt tt l' h' in
-    let from = bits_from x 60 1014 refl (omega arith) p (omega (arith, le→cross (two⁻ 60) x tt p l')) in
-    let below = bits_below x 61 p (omega (arith, den_pos x, le→cross x (real (2 ^ 60)) p tt h')) in
-    omega arith
+    bits_normal x p (omega (arith, le→cross (two⁻ 60) x tt p l')) (omega (arith, le→cross x (real (2 ^ 60)) p tt h'))
 
 pub split_holds : (x : Float) → T (fits binary64 x) → le (two⁻ 60) x ≡ true → le x (real (2 ^ 60)) ≡ true → Split x (m_of x) (e_of x)
 unfolding m_of e_of
@@ -120,7 +127,16 @@ split_holds x F l h =
           (pow_pos 1075) x' m' (power_of_difference f g);
     }
 
--- ---- m and e are the only ones
+-- ---- a value is written in one way, so m and e are the only ones
+pub same_value_same : (x y : Float) → T (fits binary64 x) → T (fits binary64 y) → T (positive x) → T (positive y) → num x * den y ≡ num y * den x → x ≡ y
+same_value_same x y F G p q h =
+    sym (of_bits-to_bits binary64 x F) ∙ ap (of_bits binary64) (bits_of_value x p ∙ ap pattern units ∙ sym (bits_of_value y q)) ∙ of_bits-to_bits binary64 y G
+  where
+    units : num x * 2 ^ 1074 / den x ≡ num y * 2 ^ 1074 / den y
+    units =
+        div_same (num x * 2 ^ 1074) (den x) (num y * 2 ^ 1074) (den y) (den_pos x) (den_pos y)
+        (mul_right_comm (num x) (2 ^ 1074) (den y) ∙ ap (λ (z : ℕ). z * 2 ^ 1074) h ∙ mul_right_comm (num y) (den x) (2 ^ 1074))
+
 -- 2 ^ e is at most half of 2 ^ e'
 abbrev Halved : ℤ → ℤ → Type 0
 Halved e e' = 2 * (up e * down e') ≤ up e' * down e

@@ -1,9 +1,8 @@
 -- 01, "ln x".
-use Rattle.std.specs.Prelude.{◌≡◌, cond, ℕ, zero, suc, ◌+◌, ◌*◌, ◌^◌, T, ltb, ℤ, pos, ◌-ℤ◌, Float}
+use Rattle.std.specs.Prelude.{◌≡◌, cond, ℕ, zero, suc, ◌+◌, ◌*◌, ◌/◌, ◌%◌, ◌^◌, T, ltb, ℤ, pos, ◌-ℤ◌, Float}
 use Rattle.std.specs.Float.{binary64}
-use Rattle.std.specs.Float.Ieee.{of_bits, of_int, le, lt, up, down}
+use Rattle.std.specs.Float.Ieee.{to_bits, of_bits, of_int, le, lt, up, down}
 use Rattle.std.specs.Float.Ieee.Positive.{num, den}
-use Rattle.arithmetic.specs.Fields.{digits, field}
 use Rattle.arithmetic.specs.Checked.{real, ◌e-◌, two⁻, within, ◌▷◌, ◌⊕◌, ◌⊖◌, ◌⊗◌, ◌⊘◌}
 
 -- x = m·2ᵉ with 0.75 ≤ m < 1.5, where a value is num / den exactly. For every x from 2⁻⁶⁰ to 2⁶⁰ `m_of x` and `e_of x` below
@@ -12,6 +11,13 @@ pub record Split (x m : Float) (e : ℤ) : Type 0 where
   pub low : T (le (75 e- 2) m)
   pub high : T (lt m (15 e- 1))
   pub exact : num x * (den m * down e) ≡ num m * up e * den x
+
+-- x's 52 binary digits below the leading one, and its exponent's field
+abbrev pub digits : Float → ℕ
+digits x = to_bits binary64 x % 2 ^ 52
+
+abbrev pub field : Float → ℕ
+field x = to_bits binary64 x / 2 ^ 52 % 2048
 
 -- the field under which the digits t stand for m: 1023 gives 1 up to 1.5, and 1022 gives 0.75 up to 1
 abbrev pub m_field : ℕ → ℕ

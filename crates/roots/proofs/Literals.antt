@@ -4,11 +4,19 @@ use Prim.Native.Nat.{◌^◌}
 use lib.Dec.{T}
 use lib.Ieee.{binary64, of_bits, of_int, round}
 use lib.Ieee.Scale.{finite}
-use Rattle.arithmetic.specs.Checked.{real}
+use Rattle.arithmetic.specs.Checked.{real, squash}
+
+pub lit_256 : of_bits binary64 0x4070000000000000 ≡ real 256
+unfolding of_bits of_int round
+lit_256 = refl
 
 pub lit_1e8 : of_bits binary64 0x4197d78400000000 ≡ real (10 ^ 8)
 unfolding of_bits of_int round
 lit_1e8 = refl
+
+pub squash_256 : squash (real 256) ≡ real 256
+unfolding of_int round
+squash_256 = refl
 
 pub finite_1 : T (finite (real 1))
 unfolding of_int round

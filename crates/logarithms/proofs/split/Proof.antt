@@ -12,8 +12,7 @@ use lib.Ieee.{Float, binary64, in_float, of_int, of_bits, nan_bits}
 use mir.Syntax.{w64}
 use mir.Val.{to_z, of_z, Fits, SFits}
 use mir.Facts.{to_z_pos, to_z-of_z}
-use Rattle.arithmetic.specs.Fields.{digits, field}
-use Rattle.logarithms.specs.Ln.{m_of, e_of, m_field}
+use Rattle.logarithms.specs.Ln.{m_of, e_of, m_field, field, digits}
 use Rattle.logarithms.proofs.Fields.{m_pattern_no_nan, m_pattern_fits, m_field_small}
 use Rattle.logarithms.proofs.split.Statement.{statement}
 use Rattle.logarithms.proofs.split.Tie as tie
