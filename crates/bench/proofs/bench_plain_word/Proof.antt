@@ -1,9 +1,0 @@
--- `bench_plain_word` meets its contract: what its three calls promise, each put into the next. Assumes nothing.
-use Rattle.bench.proofs.bench_plain_word.Statement.{statement}
-use Rattle.bench.proofs.bench_plain_word.Tie as tie
-
-returns : tie.Need-returns
-returns c = rw (c.found_word.ensures, c.before.plain.ensures, c.before.before.side-of.ensures)
-
-pub bench_plain_word_spec : {M : Type 1} → statement M
-bench_plain_word_spec = tie.close (tie.spec (λ c κs. tt) (λ c κs. tt) (λ c κs. tt) returns)

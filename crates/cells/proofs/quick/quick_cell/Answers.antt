@@ -1,0 +1,19 @@
+-- `quick_cell` meets its contract, by the side. Assumes nothing.
+use mathlib.Core.Path.{sym, ap, ◌∙◌}
+use Rattle.search.specs.Plain.{at_ends}
+use Rattle.search.specs.Quick.{quick_cell}
+use Rattle.search.specs.declared.Side.{Side}
+use Rattle.steps.specs.Steps.{pressure_in_steps}
+use Rattle.search.specs.BySide.{entries_by}
+use borrow.Author.Rules.{rules}
+use Rattle.cells.proofs.quick.quick_cell.Goals as goal
+
+pub returns-in-FromBelow : goal.returns-in-FromBelow
+returns-in-FromBelow c =
+    c.cell_over.ensures
+    ∙ ap (λ (s : Side). quick_cell (entries_by s c.args.greatest.now c.args.least.now) (at_ends (pressure_in_steps c.args.kept)) c.args.p c.args.c) (sym c.in-FromBelow.is)
+
+pub returns-in-FromAbove : goal.returns-in-FromAbove
+returns-in-FromAbove c =
+    c.cell_over-in-FromAbove.ensures
+    ∙ ap (λ (s : Side). quick_cell (entries_by s c.args.greatest.now c.args.least.now) (at_ends (pressure_in_steps c.args.kept)) c.args.p c.args.c) (sym c.in-FromAbove.is)

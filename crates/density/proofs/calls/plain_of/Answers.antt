@@ -1,0 +1,25 @@
+-- `plain_of` meets its contract, by whether its inputs are permitted. Assumes nothing.
+use mathlib.Core.Path.{sym, ap, ◌∙◌}
+use Rattle.search.specs.InCell.{in_cell}
+use Rattle.density.proofs.Permitted.{question, kept_of_lem}
+use Rattle.density.proofs.Guarded.{plain_inside, plain_guarded}
+use Rattle.density.proofs.Outcomes.{plain_refused_lem, plain_answered}
+use borrow.Author.Rules.{rules}
+use Rattle.density.proofs.calls.plain_of.Goals as goal
+
+pub found_state-requires : goal.found_state-requires
+found_state-requires c =
+    let ok = sym c.search_inputs-inputs.ensures ∙ c.in-Granted.is in
+    let ask = question _ _ _ _ _ ok c.keep-kept.result (kept_of_lem _ _ _ c.keep-kept.ensures) in
+    rw (c.step_in_cell-step.ensures, c.plain_cell-cell.ensures) (plain_inside _ _ _ ask.top c.args.side)
+
+pub returns-in-Denied : goal.returns-in-Denied
+returns-in-Denied c =
+    plain_refused_lem _ _ _ _ c.args.side _ (sym c.search_inputs-inputs.ensures ∙ c.in-Denied.is)
+
+pub returns-in-Granted : goal.returns-in-Granted
+returns-in-Granted c =
+    let ok = sym c.search_inputs-inputs.ensures ∙ c.in-Granted.is in
+    let ask = question _ _ _ _ _ ok c.keep-kept.result (kept_of_lem _ _ _ c.keep-kept.ensures) in
+    let step = c.step_in_cell-step.ensures ∙ ap (in_cell _ _) c.plain_cell-cell.ensures ∙ plain_guarded _ _ _ ask.top c.args.side in
+    plain_answered _ _ _ _ _ _ _ _ ok c.keep-kept.ensures step c.found_state.ensures

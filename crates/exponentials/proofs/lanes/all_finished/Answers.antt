@@ -1,0 +1,25 @@
+-- `all_finished` meets its contract: each place is worked by itself. The measure is what is left of the places. Assumes nothing.
+use mathlib.Core.Path.{◌≡◌, refl}
+use mathlib.Core.List.{List}
+use Prim.Native.Nat.{ℕ, ◌≤◌, ◌-◌}
+use native.Mathlib.Omega.{arith}
+use borrow.Author.Rules.{rules}
+use lib.Ieee.{Float}
+use Rattle.arithmetic.specs.Checked.{squash}
+use Rattle.exponentials.specs.Exp.{squared}
+use Rattle.arithmetic.specs.Lanes.{lane}
+use Rattle.arithmetic.proofs.Places.{Worked, none_worked, one_worked, all_worked}
+use Rattle.exponentials.proofs.lanes.all_finished.Goals as goal
+
+abbrev Done : List Float → ℕ → Float → Type 0
+Done h k v = v ≡ squared 10 (squash (lane h k))
+
+pub loop-i-init : goal.loop-i-init
+loop-i-init c = (omega arith, none_worked 7 _ _ _ refl (λ k p. tt))
+
+pub loop-i-preserved : goal.loop-i-preserved
+loop-i-preserved c =
+    (omega arith, one_worked _ _ _ _ _ _ c.loop-i.invariant.1 c.loop-i-test.true c.finished.ensures)
+
+pub returns : goal.returns
+returns c = all_worked _ _ _ _ _ c.loop-i.invariant.1 (omega arith)

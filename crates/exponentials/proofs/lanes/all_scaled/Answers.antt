@@ -1,0 +1,24 @@
+-- `all_scaled` meets its contract: each place is worked by itself. The measure is what is left of the places. Assumes nothing.
+use mathlib.Core.Path.{◌≡◌, refl}
+use mathlib.Core.List.{List}
+use Prim.Native.Nat.{ℕ, ◌≤◌, ◌-◌}
+use native.Mathlib.Omega.{arith}
+use borrow.Author.Rules.{rules}
+use lib.Ieee.{Float}
+use Rattle.arithmetic.specs.Checked.{squash, real, two⁻, within, minus, ◌⊗◌}
+use Rattle.arithmetic.specs.Lanes.{lane}
+use Rattle.arithmetic.proofs.Places.{Worked, none_worked, one_worked, all_worked}
+use Rattle.exponentials.proofs.lanes.all_scaled.Goals as goal
+
+abbrev Done : List Float → ℕ → Float → Type 0
+Done x k v = squash v ≡ squash (within (minus (real 700)) (real 700) (lane x k) (lane x k)) ⊗ two⁻ 10
+
+pub loop-i-init : goal.loop-i-init
+loop-i-init c = (omega arith, none_worked 7 _ _ _ refl (λ k p. tt))
+
+pub loop-i-preserved : goal.loop-i-preserved
+loop-i-preserved c =
+    (omega arith, one_worked _ _ _ _ _ _ c.loop-i.invariant.1 c.loop-i-test.true c.scaled.ensures)
+
+pub returns : goal.returns
+returns c = all_worked _ _ _ _ _ c.loop-i.invariant.1 (omega arith)

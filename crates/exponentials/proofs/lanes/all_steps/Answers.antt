@@ -1,0 +1,60 @@
+-- `all_steps` meets its contract. The outer loop's invariant: at each place the steps that are left, from the present H, end
+-- where all sixteen do from 1; the inner one's: behind the present place they are one step further. The measures are n and the
+-- places that are left. Assumes nothing.
+use mathlib.Core.Path.{◌≡◌, refl, sym, ◌∙◌, ap}
+use mathlib.Core.List.{List}
+use Prim.Native.Nat.{ℕ, ◌≤◌, ◌-◌}
+use native.Mathlib.Omega.{arith}
+use borrow.Author.Rules.{rules}
+use lib.ListN.{length, get_or-replicate}
+use lib.Ieee.{Float, nan}
+use Rattle.arithmetic.specs.Checked.{squash, real}
+use Rattle.exponentials.specs.Exp.{exp_steps}
+use Rattle.arithmetic.specs.Lanes.{AtEach, lane}
+use Rattle.arithmetic.proofs.Literals.{lit_1, squash_1}
+use Rattle.exponentials.proofs.ExpTurn.{exp_turn}
+use Rattle.arithmetic.proofs.Places.{Worked, none_worked, one_worked, all_worked}
+use Rattle.exponentials.proofs.lanes.all_steps.Goals as goal
+
+-- from v, the n steps that are left end where all sixteen do
+abbrev Left : List Float → ℕ → ℕ → Float → Type 0
+Left y n k v = exp_steps (squash (lane y k)) n (squash v) ≡ exp_steps (squash (lane y k)) 16 (real 1)
+
+pub loop-n-init : goal.loop-n-init
+loop-n-init c = (
+  refl,
+  λ k p.
+      ap (λ (h : Float). exp_steps (squash (lane c.args.t1 k)) 16 (squash h)) (get_or-replicate 7 k _ nan p ∙ lit_1)
+      ∙ ap (exp_steps (squash (lane c.args.t1 k)) 16) squash_1,
+)
+
+pub loop-i-init : goal.loop-i-init
+loop-i-init c = c.loop-n.invariant in (omega arith, none_worked 7 _ _ _ inv.0 inv.1)
+
+pub loop-i-preserved : goal.loop-i-preserved
+loop-i-preserved c =
+    let y = squash (lane c.args.t1 c.loop-i.i) in
+    let h = squash (lane c.loop-i.h c.loop-i.i) in
+    (
+      omega arith,
+      one_worked _ _ _ _ c.loop-i.i _ c.loop-i.invariant.1 c.loop-i-test.true
+          (ap (exp_steps y (c.loop-n.n - 1)) c.step.ensures
+          ∙ sym (exp_turn y h c.loop-n.n c.loop-n-test.true)
+          ∙ c.loop-i.invariant.1.left c.loop-i.i (omega arith) c.loop-i-test.true),
+    )
+
+pub overflow_sub-n : goal.overflow_sub-n
+overflow_sub-n c = omega arith
+
+pub loop-n-smaller : goal.loop-n-smaller
+loop-n-smaller c = omega arith
+
+pub loop-n-preserved : goal.loop-n-preserved
+loop-n-preserved c =
+    (c.loop-i.invariant.1.size, all_worked _ _ _ _ _ c.loop-i.invariant.1 (omega arith))
+
+pub returns : goal.returns
+unfolding exp_steps
+returns c = λ k p.
+    let z : c.loop-n.n ≡ 0 = omega arith in
+    rw z at (c.loop-n.invariant.1 k p)

@@ -1,0 +1,29 @@
+-- `all_steps` meets its contract. The outer loop's invariant: at each place the steps that are left, from the present H, end
+-- where all sixteen do from 1; the inner one's: behind the present place they are one step further. The measures are n and the
+-- places that are left. Assumes nothing.
+use mathlib.Core.Path.{◌≡◌, refl, sym, ◌∙◌, ap}
+use mathlib.Core.List.{List}
+use Prim.Native.Nat.{ℕ, ◌≤◌, ◌-◌}
+use native.Mathlib.Omega.{arith}
+use borrow.Author.Rules.{rules}
+use lib.ListN.{length, get_or-replicate}
+use lib.Ieee.{Float, nan}
+use Rattle.arithmetic.specs.Checked.{squash, real}
+use Rattle.exponentials.specs.Exp.{exp_steps}
+use Rattle.arithmetic.specs.Lanes.{AtEach, lane}
+use Rattle.arithmetic.proofs.Literals.{lit_1, squash_1}
+use Rattle.exponentials.proofs.ExpTurn.{exp_turn}
+use Rattle.arithmetic.proofs.Places.{Worked, none_worked, one_worked, all_worked}
+use Rattle.exponentials.proofs.lanes.all_steps.Given as goal
+
+abbrev pub invariant-loop-i : goal.invariant-loop-i
+invariant-loop-i l = (l.i ≤ 7) × Worked 7 (Left l.y (l.n - 1)) (Left l.y l.n) l.i l.h
+
+abbrev pub decreases-loop-i : goal.decreases-loop-i
+decreases-loop-i l = 7 - l.i
+
+abbrev pub invariant-loop-n : goal.invariant-loop-n
+invariant-loop-n l = (length l.h ≡ 7) × AtEach 7 (λ k. Left l.y l.n k (lane l.h k))
+
+abbrev pub decreases-loop-n : goal.decreases-loop-n
+decreases-loop-n l = l.n

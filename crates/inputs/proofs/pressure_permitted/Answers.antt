@@ -1,0 +1,9 @@
+-- `pressure_permitted` meets its contract: its test is that of the range. Assumes nothing.
+use mathlib.Core.Path.{sym}
+use borrow.Author.Rules.{rules}
+use Rattle.fluids.specs.Entries.{entry_of}
+use Rattle.fluids.proofs.Limits.{in_pressure}
+use Rattle.inputs.proofs.pressure_permitted.Goals as goal
+
+pub returns : goal.returns
+returns c = sym (in_pressure (entry_of c.args.fluid) _ _ _ c.single_numbers-numbers.ensures c.between.ensures)

@@ -1,0 +1,8 @@
+-- `found_bits` meets its contract, by the two forms of what was found. Assumes nothing.
+use mathlib.Core.Path.{◌∙◌, sym, ap}
+use Rattle.outcomes.specs.Parts.{found_bits_of}
+use borrow.Author.Rules.{rules}
+use Rattle.outcomes.proofs.found_bits.Goals as goal
+
+pub returns-in-State : goal.returns-in-State
+returns-in-State c = c.bits.ensures ∙ sym (ap found_bits_of c.in-State.is)

@@ -1,0 +1,68 @@
+-- `fill` meets its contract. The invariant: both lists hold the pressures in the places under j and none of them gave 12; the measure
+-- is the places left. Assumes nothing.
+use mathlib.Core.Path.{◌≡◌}
+use mathlib.Core.Bool.{true, false}
+use Prim.Native.Nat.{◌+◌, ◌-◌, ◌≤◌}
+use native.Mathlib.Omega.{arith}
+use borrow.Author.Rules.{rules}
+use Rattle.steps.proofs.Inside.{at_end}
+use Rattle.search.specs.Plain.{at_ends}
+use Rattle.search.specs.Lists.{some_not_finite, filled}
+use Rattle.search.proofs.Filling.{fill_start, fill_length, fill_next, fill_end}
+use Rattle.search.proofs.PreparationFails.{fails_exactly}
+use Rattle.search.proofs.Turns.{not_finite_start, not_finite_turn}
+use Rattle.steps.specs.Steps.{step_pressure_of}
+use Rattle.steps.proofs.Seen.{nan_seen}
+use Rattle.preparation.proofs.fill.Goals as goal
+
+pub loop-j-init : goal.loop-j-init
+loop-j-init c = (omega arith, not_finite_start _, fill_start _ _, fill_start _ _)
+
+pub shape_of-greatest-then-pressure : goal.shape_of-greatest-then-pressure
+shape_of-greatest-then-pressure c = fill_length _ _ _ _ c.loop-j.invariant.2
+
+pub shape_of-least-then-pressure : goal.shape_of-least-then-pressure
+shape_of-least-then-pressure c = fill_length _ _ _ _ c.loop-j.invariant.3
+
+pub returns-then-pressure : goal.returns-then-pressure
+returns-then-pressure c =
+    let here = nan_seen _ _ true (at_end _ c.loop-j.j _ (omega arith) c.end_pressure-pressure.ensures) c.if-pressure.true in
+    ((fails_exactly _ _).1 (c.loop-j.j, omega arith, here), (c.loop-j.j, omega arith, c.loop-j.invariant.2, c.loop-j.invariant.3))
+
+pub offset_bounds-greatest-j : goal.offset_bounds-greatest-j
+offset_bounds-greatest-j c = omega arith
+
+pub bounds-greatest-j : goal.bounds-greatest-j
+bounds-greatest-j c = omega (arith, fill_length _ _ _ _ c.loop-j.invariant.2)
+
+pub offset_bounds-least-j : goal.offset_bounds-least-j
+offset_bounds-least-j c = omega arith
+
+pub bounds-least-j : goal.bounds-least-j
+bounds-least-j c = omega (arith, fill_length _ _ _ _ c.loop-j.invariant.3)
+
+pub overflow_add-j : goal.overflow_add-j
+overflow_add-j c = omega arith
+
+pub loop-j-smaller : goal.loop-j-smaller
+loop-j-smaller c = omega arith
+
+pub loop-j-preserved : goal.loop-j-preserved
+loop-j-preserved c =
+    let e = at_end _ c.loop-j.j _ (omega arith) c.end_pressure-pressure.ensures in (
+      omega arith,
+      not_finite_turn _ _ c.loop-j.invariant.1 (nan_seen _ _ false e c.if-pressure.false),
+      fill_next _ _ _ _ c.loop-j.invariant.2 _ (omega arith) e,
+      fill_next _ _ _ _ c.loop-j.invariant.3 _ (omega arith) e,
+    )
+
+pub shape_of-greatest : goal.shape_of-greatest
+shape_of-greatest c = fill_length _ _ _ _ c.loop-j.invariant.2
+
+pub shape_of-least : goal.shape_of-least
+shape_of-least c = fill_length _ _ _ _ c.loop-j.invariant.3
+
+pub returns : goal.returns
+returns c =
+    let all : c.loop-j.j ≡ c.args.c + 1 = omega arith in
+    (rw all at c.loop-j.invariant.1, fill_end _ _ _ _ c.loop-j.invariant.2 _ all, fill_end _ _ _ _ c.loop-j.invariant.3 _ all)

@@ -1,0 +1,24 @@
+-- `prepare_of` meets its contract, by whether its inputs are permitted. Assumes nothing.
+use Rattle.inputs.specs.Inputs.{prepare_permit}
+use Rattle.inputs.proofs.Passed.{prepare_granted}
+use Rattle.preparation.proofs.Outcomes.{prepare_refused, prepare_answered}
+use Rattle.inputs.proofs.Passed.{inputs_with_room}
+use borrow.Author.Rules.{rules}
+use Rattle.preparation.proofs.prepare_of.Goals as goal
+
+pub prepare_lists-requires : goal.prepare_lists-requires
+prepare_lists-requires c =
+    prepare_granted _ _ _ _ _ (inputs_with_room (prepare_permit _ c.args.t c.args.c) _ _ _ _ c.room-enough.ensures c.prepare_inputs-inputs.ensures c.in-Granted.is)
+
+pub returns-in-Denied : goal.returns-in-Denied
+returns-in-Denied c =
+    let refused = inputs_with_room (prepare_permit _ c.args.t c.args.c) _ _ _ _ c.room-enough.ensures c.prepare_inputs-inputs.ensures c.in-Denied.is in
+    let p = prepare_refused _ _ _ c.args.greatest.now c.args.least.now _ refused in
+    (p.outcome, p.greatest_left, p.least_left)
+
+pub returns-in-Granted : goal.returns-in-Granted
+returns-in-Granted c =
+    let ok = inputs_with_room (prepare_permit _ c.args.t c.args.c) _ _ _ _ c.room-enough.ensures c.prepare_inputs-inputs.ensures c.in-Granted.is in
+    let (outcome, greatest, least) = c.prepare_lists.ensures in
+    let p = prepare_answered _ _ _ c.args.greatest.now c.args.least.now _ _ _ _ ok c.keep-kept.ensures outcome greatest least in
+    (p.outcome, p.greatest_left, p.least_left)

@@ -1,0 +1,10 @@
+-- `main` ends: the blocks are counted up to a bound that no input reaches. Assumes nothing.
+use Prim.Native.Nat.{◌≤◌, ◌-◌}
+use borrow.Author.Rules.{rules}
+use Rattle.probe.proofs.main.Given as goal
+
+abbrev pub invariant-loop-turns : goal.invariant-loop-turns
+invariant-loop-turns l = l.turns ≤ 1099511627776
+
+abbrev pub decreases-loop-turns : goal.decreases-loop-turns
+decreases-loop-turns l = 1099511627776 - l.turns

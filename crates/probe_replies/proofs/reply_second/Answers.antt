@@ -1,0 +1,11 @@
+-- `reply_second` meets its contract, by the reply's two forms. Assumes nothing.
+use mathlib.Core.Path.{sym, ap}
+use borrow.Author.Rules.{rules}
+use Rattle.probe_replies.specs.Replies.{reply_second}
+use Rattle.probe_replies.proofs.reply_second.Goals as goal
+
+pub returns-in-Holds : goal.returns-in-Holds
+returns-in-Holds c = sym (ap reply_second c.in-Holds.is)
+
+pub returns-in-Refused : goal.returns-in-Refused
+returns-in-Refused c = sym (ap reply_second c.in-Refused.is)

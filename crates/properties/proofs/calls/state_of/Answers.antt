@@ -1,0 +1,9 @@
+-- `state_of` meets its contract: the state of what is kept. Assumes nothing.
+use mathlib.Core.Path.{◌∙◌, ap}
+use borrow.Author.Rules.{rules}
+use Rattle.kept.specs.declared.Kept.{Kept}
+use Rattle.equation.specs.State.{state_of}
+use Rattle.properties.proofs.calls.state_of.Goals as goal
+
+pub returns : goal.returns
+returns c = c.state_at.ensures ∙ ap (λ (k : Kept). state_of k c.args.rho) c.keep.ensures

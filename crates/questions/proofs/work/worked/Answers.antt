@@ -1,0 +1,15 @@
+-- `worked` meets its contract, by the three things that a record asks. Assumes nothing.
+use mathlib.Core.Path.{refl}
+use Rattle.properties.specs.Calls.{pressure_of}
+use borrow.Author.Rules.{rules}
+use Rattle.questions.proofs.work.worked.Goals as goal
+
+pub returns-in-State : goal.returns-in-State
+unfolding pressure_of
+returns-in-State c = rw c.in-State.is c.answer_of.ensures
+
+pub returns-in-Search : goal.returns-in-Search
+returns-in-Search c = rw c.in-Search.is c.density_at.ensures
+
+pub returns-in-Refused : goal.returns-in-Refused
+returns-in-Refused c = rw c.in-Refused.is refl

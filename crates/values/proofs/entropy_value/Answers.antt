@@ -1,0 +1,13 @@
+-- `entropy_value` meets its contract: squash goes through each operation. Assumes nothing.
+use mathlib.Core.Path.{◌∙◌, ap}
+use borrow.Author.Rules.{rules}
+use Rattle.arithmetic.proofs.Operations.{squash_add, squash_sub, squash_mul, ⊕_left, ⊕_right, ⊖_left, ⊖_right, ⊗_left, ⊗_right}
+use Rattle.fluids.specs.declared.Constants.{Constants}
+use Rattle.values.specs.Values.{entropy_value, i1, i0}
+use Rattle.values.proofs.entropy_value.Goals as goal
+
+pub returns : goal.returns
+unfolding entropy_value i1 i0
+returns c =
+    let gas = ap (λ (k : Constants). k.gas) c.single_numbers-numbers.ensures in
+    c.squash.ensures ∙ simp (squash_add, squash_sub, squash_mul, ⊕_left, ⊕_right, ⊖_left, ⊖_right, ⊗_left, ⊗_right, gas, c.i1.ensures, c.i0.ensures)
