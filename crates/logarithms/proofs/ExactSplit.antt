@@ -23,10 +23,22 @@ use Rattle.logarithms.proofs.Fields.{pattern, bits_of_value, bits_normal, patter
 -- ---- 0.75 ≤ m < 1.5, as an order of fractions
 pub lt→cross : (x y : Float) → T (positive x) → T (positive y) → T (lt x y) → num x * den y < num y * den x
 unfolding lt
+lt→cross lib.Ieee.nan y p q h = elim p [ ]
+lt→cross (lib.Ieee.inf _) y p q h = elim p [ ]
+lt→cross (fin false m e) lib.Ieee.nan p q h = elim q [ ]
+lt→cross (fin false m e) (lib.Ieee.inf _) p q h = elim q [ ]
+lt→cross (fin false m e) (fin true n d) p q h = elim q [ ]
+lt→cross (fin true m e) y p q h = elim p [ ]
 lt→cross (fin false m e) (fin false n d) p q h = ltb→lt (m * up e * down d) (n * up d * down e) h
 
 cross→lt : (x y : Float) → T (positive x) → T (positive y) → num x * den y < num y * den x → T (lt x y)
 unfolding lt
+cross→lt lib.Ieee.nan y p q h = elim p [ ]
+cross→lt (lib.Ieee.inf _) y p q h = elim p [ ]
+cross→lt (fin false m e) lib.Ieee.nan p q h = elim q [ ]
+cross→lt (fin false m e) (lib.Ieee.inf _) p q h = elim q [ ]
+cross→lt (fin false m e) (fin true n d) p q h = elim q [ ]
+cross→lt (fin true m e) y p q h = elim p [ ]
 cross→lt (fin false m e) (fin false n d) p q h = lt→ltb (m * up e * down d) (n * up d * down e) h
 
 -- 3 / 4 ≤ num / den < 3 / 2
@@ -67,6 +79,12 @@ m_high x = let r = range_of_digits x in cross→lt (m_of x) (15 e- 1) r.above_ze
 -- ---- m + 1 lies between 1 and 4, and so does its rounding
 sum_rounds : (x y : Float) → T (positive x) → T (positive y) → add binary64 x y ≡ round binary64 false (num x * den y + num y * den x) (den x * den y)
 unfolding add sum
+sum_rounds lib.Ieee.nan y p q = elim p [ ]
+sum_rounds (lib.Ieee.inf _) y p q = elim p [ ]
+sum_rounds (fin false m e) lib.Ieee.nan p q = elim q [ ]
+sum_rounds (fin false m e) (lib.Ieee.inf _) p q = elim q [ ]
+sum_rounds (fin false m e) (fin true n d) p q = elim q [ ]
+sum_rounds (fin true m e) y p q = elim p [ ]
 sum_rounds (fin false m e) (fin false n d) p q = refl
 
 pub plus_one_finite : (m : Float) → T (le (75 e- 2) m) → T (lt m (15 e- 1)) → T (finite (add binary64 m (real 1)))

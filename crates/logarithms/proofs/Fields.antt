@@ -102,6 +102,9 @@ pattern n = (size n - 53) * 2 ^ 52 + n / 2 ^ (size n - 53)
 
 pub bits_of_value : (x : Float) → T (positive x) → to_bits binary64 x ≡ pattern (num x * 2 ^ 1074 / den x)
 unfolding to_bits
+bits_of_value nan p = elim p [ ]
+bits_of_value (inf _) p = elim p [ ]
+bits_of_value (fin true m e) p = elim p [ ]
 bits_of_value (fin false m e) p = rw zero-add
 
 size_above : (n j : ℕ) → 2 ^ j ≤ n → j < size n

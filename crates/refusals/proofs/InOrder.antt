@@ -85,6 +85,7 @@ all_in [] ys = true
 all_in (x ∷ xs) ys = is_one_of x ys && all_in xs ys
 
 one_of : (n : ℕ) (xs : List ℕ) → T (is_one_of n xs) → OneOf n xs
+one_of n [] t = elim t [ ]
 one_of n (x ∷ xs) t = go (eqb n x) refl (one_of n xs) t
   where
     go : (b : Bool) → eqb n x ≡ b → (T (is_one_of n xs) → OneOf n xs) → T (b || is_one_of n xs) → (n ≡ x) ⊎ OneOf n xs
@@ -93,6 +94,7 @@ one_of n (x ∷ xs) t = go (eqb n x) refl (one_of n xs) t
 
 -- a list's codes that all stand in another
 pub one_of_more : (xs ys : List ℕ) → T (all_in xs ys) → (n : ℕ) → OneOf n xs → OneOf n ys
+one_of_more [] ys all n h = elim h [ ]
 one_of_more (x ∷ xs) ys all n (inl e) = subst (λ (m : ℕ). OneOf m ys) (sym e) (one_of x ys (and_l (is_one_of x ys) (all_in xs ys) all))
 one_of_more (x ∷ xs) ys all n (inr later) = one_of_more xs ys (and_r (is_one_of x ys) (all_in xs ys) all) n later
 

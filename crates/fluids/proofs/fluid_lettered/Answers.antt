@@ -15,4 +15,4 @@ returns-in-70 c = rw c.in-70.is refl
 pub returns-in_default : goal.returns-in_default
 unfolding letter_of fluid_lettered
 returns-in_default c =
-    simp (ne_eqb _ _ c.in_default.rest.1, ne_eqb _ _ c.in_default.rest.0.1)
+    simp (ne_eqb _ _ c.in_default.in_default-own.rest.1, ne_eqb _ _ c.in_default.in_default-own.rest.0.1)

@@ -15,4 +15,4 @@ returns-in-1 c = rw c.in-1.is refl
 pub returns-in_default : goal.returns-in_default
 unfolding fluid_numbered
 returns-in_default c =
-    simp (ne_eqb _ _ c.in_default.rest.1, ne_eqb _ _ c.in_default.rest.0.1)
+    simp (ne_eqb _ _ c.in_default.in_default-own.rest.1, ne_eqb _ _ c.in_default.in_default-own.rest.0.1)

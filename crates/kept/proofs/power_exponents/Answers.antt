@@ -13,10 +13,8 @@ use Rattle.fluids.specs.declared.Term.{Term}
 use Rattle.kept.specs.Kept.{exponent_of, power_at}
 use Rattle.fluids.specs.Entry.{term_of}
 use Rattle.fluids.proofs.Table.{read_row}
+use Rattle.kept.proofs.power_exponents.Invariants.{Done}
 use Rattle.kept.proofs.power_exponents.Goals as goal
-
-abbrev Done : Float → List Term → ℕ → ℕ → Float → Type 0
-Done y terms from k v = exp_of v ≡ power_at y (term_of terms (from + k))
 
 pub loop-j-init : goal.loop-j-init
 loop-j-init c = (omega arith, none_worked 7 _ _ _ refl (λ k p. tt))

@@ -15,6 +15,9 @@ use Rattle.fluids.specs.Entry.{term_of}
 use Rattle.fluids.proofs.Table.{read_row}
 use Rattle.kept.proofs.power_exponents.Given as goal
 
+abbrev pub Done : Float → List Term → ℕ → ℕ → Float → Type 0
+Done y terms from k v = exp_of v ≡ power_at y (term_of terms (from + k))
+
 abbrev pub invariant-loop-j : goal.invariant-loop-j
 invariant-loop-j l = (l.j ≤ 7) × Worked 7 (Done l.y l.terms l.from) (λ k v. Unit {0}) l.j l.exponents
 

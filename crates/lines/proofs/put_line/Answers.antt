@@ -47,4 +47,4 @@ returns c =
     let three = then two c.put_answer-end.ensures (omega (arith, length-append n_field m_field_lem, answer_small c.answer-a.result)) in
     let four =
     then three c.put_byte.ensures (omega (arith, length-append (n_field ++ m_field_lem) (answer_text c.answer-a.result), length-append n_field m_field_lem, answer_small c.answer-a.result)) in
-    as_text (ap (λ (c.answer-a.result : Answer). ((n_field ++ m_field_lem) ++ answer_text c.answer-a.result) ++ (10 ∷ [])) c.answer-a.ensures) four
+    as_text (ap (λ (a : Answer). ((n_field ++ m_field_lem) ++ answer_text a) ++ (10 ∷ [])) c.answer-a.ensures) four

@@ -13,4 +13,4 @@ q_by S1 S2 = simp (squash_add, squash_mul, ⊕_left, ⊕_right, ⊗_left, ⊗_ri
 
 pub returns : goal.returns
 unfolding Q
-returns c = c.args.state.sums in c.squash.ensures ∙ q_by s.s1 s.s2
+returns c = c.squash.ensures ∙ q_by c.args.state.sums.s1 c.args.state.sums.s2

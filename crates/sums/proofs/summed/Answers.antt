@@ -18,11 +18,8 @@ use Rattle.sums.specs.Factors.{x_of_row}
 use Rattle.fluids.proofs.Table.{read_row, read_row_finite}
 use Rattle.sums.proofs.Table.{x_over, sums_over_lem}
 use Rattle.sums.proofs.Turn.{this_row, sums_turn}
+use Rattle.sums.proofs.summed.Invariants.{XsFrom}
 use Rattle.sums.proofs.summed.Goals as goal
-
--- xs are the X of the rows, for bells' parts as kept
-abbrev XsFrom : Float → List Term → List Float → List Float → Type 0
-XsFrom delta terms bells xs = AtEach 14 (λ k. lane xs k ≡ x_of_row (squash delta) terms bells k)
 
 pub loop-i-init : goal.loop-i-init
 unfolding sums_to

@@ -20,6 +20,10 @@ use Rattle.sums.proofs.Table.{x_over, sums_over_lem}
 use Rattle.sums.proofs.Turn.{this_row, sums_turn}
 use Rattle.sums.proofs.summed.Given as goal
 
+-- xs are the X of the rows, for bells' parts as kept
+abbrev pub XsFrom : Float → List Term → List Float → List Float → Type 0
+XsFrom delta terms bells xs = AtEach 14 (λ k. lane xs k ≡ x_of_row (squash delta) terms bells k)
+
 abbrev pub invariant-loop-i : goal.invariant-loop-i
 invariant-loop-i l =
     (l.i ≤ 14)

@@ -15,4 +15,4 @@ unfolding quick_cell
 returns-else-list-c c = sym (simp c.if-list-c.false)
 
 pub returns-else-c-places : goal.returns-else-c-places
-returns-else-c-places c = c.args in sym (quick_without a.list.now _ a.p a.c (omega arith))
+returns-else-c-places c = sym (quick_without c.args.list.now _ c.args.p c.args.c (omega arith))

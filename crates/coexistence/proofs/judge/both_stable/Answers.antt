@@ -10,4 +10,4 @@ returns-then-liquid c =
     then_second _ (ap (λ (z : Float). lt z c.args.liquid) lit_0) c.if-liquid.true (ap (λ (z : Float). lt z c.args.vapour) lit_0)
 
 pub returns : goal.returns
-returns c = c.args in not_first _ (ap (λ (z : Float). lt z a.liquid) lit_0) c.if-liquid.false
+returns c = not_first _ (ap (λ (z : Float). lt z c.args.liquid) lit_0) c.if-liquid.false

@@ -11,4 +11,4 @@ returns-then-vapour c =
     then_second _ (ap (λ (z : Float). lt z c.args.vapour) lit_0) c.if-vapour.true c.across.ensures
 
 pub returns : goal.returns
-returns c = c.args.vapour in not_first _ (ap (λ (z : Float). lt z v) lit_0) c.if-vapour.false
+returns c = not_first _ (ap (λ (z : Float). lt z c.args.vapour) lit_0) c.if-vapour.false

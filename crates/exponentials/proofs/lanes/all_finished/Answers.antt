@@ -9,10 +9,8 @@ use Rattle.arithmetic.specs.Checked.{squash}
 use Rattle.exponentials.specs.Exp.{squared}
 use Rattle.arithmetic.specs.Lanes.{lane}
 use Rattle.arithmetic.proofs.Places.{Worked, none_worked, one_worked, all_worked}
+use Rattle.exponentials.proofs.lanes.all_finished.Invariants.{Done}
 use Rattle.exponentials.proofs.lanes.all_finished.Goals as goal
-
-abbrev Done : List Float → ℕ → Float → Type 0
-Done h k v = v ≡ squared 10 (squash (lane h k))
 
 pub loop-i-init : goal.loop-i-init
 loop-i-init c = (omega arith, none_worked 7 _ _ _ refl (λ k p. tt))

@@ -11,6 +11,9 @@ use Rattle.arithmetic.specs.Lanes.{lane}
 use Rattle.arithmetic.proofs.Places.{Worked, none_worked, one_worked, all_worked}
 use Rattle.exponentials.proofs.lanes.all_finished.Given as goal
 
+abbrev pub Done : List Float → ℕ → Float → Type 0
+Done h k v = v ≡ squared 10 (squash (lane h k))
+
 abbrev pub invariant-loop-i : goal.invariant-loop-i
 invariant-loop-i l = (l.i ≤ 7) × Worked 7 (Done l.h) (λ k v. Unit {0}) l.i l.exps
 

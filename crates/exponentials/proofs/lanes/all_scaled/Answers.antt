@@ -8,10 +8,8 @@ use lib.Ieee.{Float}
 use Rattle.arithmetic.specs.Checked.{squash, real, two⁻, within, minus, ◌⊗◌}
 use Rattle.arithmetic.specs.Lanes.{lane}
 use Rattle.arithmetic.proofs.Places.{Worked, none_worked, one_worked, all_worked}
+use Rattle.exponentials.proofs.lanes.all_scaled.Invariants.{Done}
 use Rattle.exponentials.proofs.lanes.all_scaled.Goals as goal
-
-abbrev Done : List Float → ℕ → Float → Type 0
-Done x k v = squash v ≡ squash (within (minus (real 700)) (real 700) (lane x k) (lane x k)) ⊗ two⁻ 10
 
 pub loop-i-init : goal.loop-i-init
 loop-i-init c = (omega arith, none_worked 7 _ _ _ refl (λ k p. tt))

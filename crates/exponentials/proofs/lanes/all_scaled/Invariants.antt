@@ -10,6 +10,9 @@ use Rattle.arithmetic.specs.Lanes.{lane}
 use Rattle.arithmetic.proofs.Places.{Worked, none_worked, one_worked, all_worked}
 use Rattle.exponentials.proofs.lanes.all_scaled.Given as goal
 
+abbrev pub Done : List Float → ℕ → Float → Type 0
+Done x k v = squash v ≡ squash (within (minus (real 700)) (real 700) (lane x k) (lane x k)) ⊗ two⁻ 10
+
 abbrev pub invariant-loop-i : goal.invariant-loop-i
 invariant-loop-i l = (l.i ≤ 7) × Worked 7 (Done l.x) (λ k v. Unit {0}) l.i l.y
 

@@ -14,28 +14,24 @@ use Rattle.arithmetic.specs.Lanes.{AtEach, lane}
 use Rattle.arithmetic.proofs.Literals.{lit_1, squash_1}
 use Rattle.exponentials.proofs.ExpTurn.{exp_turn}
 use Rattle.arithmetic.proofs.Places.{Worked, none_worked, one_worked, all_worked}
+use Rattle.exponentials.proofs.lanes.all_steps.Invariants.{Left}
 use Rattle.exponentials.proofs.lanes.all_steps.Goals as goal
-
--- from v, the n steps that are left end where all sixteen do
-abbrev Left : List Float → ℕ → ℕ → Float → Type 0
-Left y n k v = exp_steps (squash (lane y k)) n (squash v) ≡ exp_steps (squash (lane y k)) 16 (real 1)
 
 pub loop-n-init : goal.loop-n-init
 loop-n-init c = (
   refl,
   λ k p.
-      ap (λ (h : Float). exp_steps (squash (lane c.args.t1 k)) 16 (squash h)) (get_or-replicate 7 k _ nan p ∙ lit_1)
-      ∙ ap (exp_steps (squash (lane c.args.t1 k)) 16) squash_1,
+      ap (λ (h : Float). exp_steps (squash (lane c.args.y k)) 16 (squash h)) (get_or-replicate 7 k _ nan p ∙ lit_1)
+      ∙ ap (exp_steps (squash (lane c.args.y k)) 16) squash_1,
 )
 
 pub loop-i-init : goal.loop-i-init
-loop-i-init c = c.loop-n.invariant in (omega arith, none_worked 7 _ _ _ inv.0 inv.1)
+loop-i-init c = (omega arith, none_worked 7 _ _ _ c.loop-n.invariant.0 c.loop-n.invariant.1)
 
 pub loop-i-preserved : goal.loop-i-preserved
 loop-i-preserved c =
-    let y = squash (lane c.args.t1 c.loop-i.i) in
-    let h = squash (lane c.loop-i.h c.loop-i.i) in
-    (
+    let y = squash (lane c.args.y c.loop-i.i) in
+    let h = squash (lane c.loop-i.h c.loop-i.i) in (
       omega arith,
       one_worked _ _ _ _ c.loop-i.i _ c.loop-i.invariant.1 c.loop-i-test.true
           (ap (exp_steps y (c.loop-n.n - 1)) c.step.ensures

@@ -16,6 +16,10 @@ use Rattle.exponentials.proofs.ExpTurn.{exp_turn}
 use Rattle.arithmetic.proofs.Places.{Worked, none_worked, one_worked, all_worked}
 use Rattle.exponentials.proofs.lanes.all_steps.Given as goal
 
+-- from v, the n steps that are left end where all sixteen do
+abbrev pub Left : List Float → ℕ → ℕ → Float → Type 0
+Left y n k v = exp_steps (squash (lane y k)) n (squash v) ≡ exp_steps (squash (lane y k)) 16 (real 1)
+
 abbrev pub invariant-loop-i : goal.invariant-loop-i
 invariant-loop-i l = (l.i ≤ 7) × Worked 7 (Left l.y (l.n - 1)) (Left l.y l.n) l.i l.h
 

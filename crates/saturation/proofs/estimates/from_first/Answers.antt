@@ -6,10 +6,10 @@ use Rattle.saturation.proofs.Terms.{begun_with}
 use Rattle.saturation.proofs.estimates.from_first.Goals as goal
 
 pub term_value-first-requires : goal.term_value-first-requires
-term_value-first-requires c = c.requires in (pre.0 0 (omega arith), pre.1)
+term_value-first-requires c = (c.requires.0 0 (omega arith), c.requires.1)
 
 pub sum_of-requires : goal.sum_of-requires
-sum_of-requires c = c.requires in (pre.0, pre.1, omega (arith, pre.2, pre.3))
+sum_of-requires c = (c.requires.0, c.requires.1, omega (arith, c.requires.2, c.requires.3))
 
 pub returns : goal.returns
 unfolding from_first term_at

@@ -12,10 +12,8 @@ use Rattle.sums.specs.Rows.{x_at}
 use Rattle.sums.specs.Factors.{x_of_row}
 use Rattle.fluids.proofs.Table.{read_row, read_row_finite}
 use Rattle.sums.proofs.Table.{x_over}
+use Rattle.sums.proofs.factors.first_xs.Invariants.{Done}
 use Rattle.sums.proofs.factors.first_xs.Goals as goal
-
-abbrev Done : Float → List Term → List Float → ℕ → Float → Type 0
-Done delta terms bells k v = v ≡ x_of_row (squash delta) terms bells k
 
 pub loop-j-init : goal.loop-j-init
 loop-j-init c = (omega arith, none_worked 7 _ _ _ refl (λ k p. tt))

@@ -15,6 +15,9 @@ use Rattle.fluids.proofs.Table.{read_row, read_row_finite}
 use Rattle.sums.proofs.Table.{x_over}
 use Rattle.sums.proofs.factors.x_exponents.Given as goal
 
+abbrev pub Done : Float → List Term → List Float → ℕ → Float → Type 0
+Done delta terms bells k v = exp_of v ≡ x_of_row (squash delta) terms bells (7 + k)
+
 abbrev pub invariant-loop-j : goal.invariant-loop-j
 invariant-loop-j l = (l.j ≤ 7) × Worked 7 (Done l.delta l.terms l.bells) (λ k v. Unit {0}) l.j l.exponents
 
