@@ -44,6 +44,9 @@ module _ (F : Fluid) (t ρ : Float) (granted : state_permit F t ρ ≡ Granted) 
 
 -- at density 0 it is +0, or 12
 positive_not_negative : (x : Float) → T (positive x) → NotNegative x
+positive_not_negative nan p = elim p [ ]
+positive_not_negative (inf _) p = elim p [ ]
+positive_not_negative (fin true m e) p = elim p [ ]
 positive_not_negative (fin false m e) p = refl
 
 zero_vanishes : Vanishes (squash (real 0))

@@ -22,6 +22,8 @@ use Rattle.sums.specs.Sums.{sums_to}
 -- a row damped by δᵏ
 pub damped_x : (δ b : Float) (k : ℕ) (term : Term) → DampedBy k term → x_at δ b term ≡ exp_of (minus (δ ↑ k))
 unfolding x_at
+damped_x δ b k (Rattle.fluids.specs.declared.Term.TheVariants.Plain _ _ _) h = elim h [ ]
+damped_x δ b k (Rattle.fluids.specs.declared.Term.TheVariants.Bell _ _ _ _ _ _ _) h = elim h [ ]
 damped_x δ b k (Damped n t d l) h = ap (λ (p : ℕ). exp_of (minus (δ ↑ p))) h
 
 -- X and the sums over a copy of the table
@@ -35,6 +37,8 @@ module _ (ts us : List Term) (e : ts ≡ us) where
 
 -- a whole number that a u32 holds is finite
 value_finite : (x : Float) (s : Bool) (a c : ℕ) → HasValue x s a c → squash x ≡ x
+value_finite lib.Ieee.nan s a c h = elim h [ ]
+value_finite (lib.Ieee.inf _) s a c h = elim h [ ]
 value_finite (fin t m e) s a c h = refl
 
 pub whole_finite : (n : ℕ) → n < 2 ^ 32 → squash (real n) ≡ real n

@@ -24,6 +24,7 @@ use Rattle.sums.proofs.Turn.{sums_next}
 
 power_vanishes : (δ : Float) (d : ℕ) → Vanishes δ → T (ltb 0 d) → Vanishes (δ ↑ d)
 unfolding ◌↑◌
+power_vanishes δ zero v h = elim h [ ]
 power_vanishes δ (suc d) v h = times_zero (δ ↑ d) δ v
 
 module _ (δ τ w X : Float) (v : Vanishes δ) where
