@@ -28,6 +28,8 @@ second a b c d t = and_r a b (and_l (a && b) c (and_l (a && b && c) d t))
 -- then its denominator is at most 2ᵏ⁺⁵³
 pub denominator : (k : ℕ) (x : Float) → T (fits binary64 x) → T (finite x) → Large k x → den x ≤ 2 ^ (k + 53)
 unfolding fits
+denominator k nan f t h = elim t [ ]
+denominator k (inf _) f t h = elim t [ ]
 denominator k (fin s m (pos e)) f t h = pow_pos (k + 53)
 denominator k (fin s zero (negsuc e)) f t h = absurd (omega (arith, den_pos (fin s zero (negsuc e))))
 denominator k (fin s (suc m) (negsuc e)) f t h =
@@ -93,6 +95,8 @@ sum_of_parts (fin true m e) = (omega arith, omega arith)
 sum_of_parts (fin false m e) = (omega arith, omega arith)
 
 small_beside : (k : ℕ) (x y : Float) → T (finite x) → T (finite y) → Large k x → 2 ^ suc k * num y ≤ den y → Apart (suc k) (add binary64 x y)
+small_beside k nan y p q h g = elim p [ ]
+small_beside k (inf _) y p q h g = elim p [ ]
 small_beside k (fin false m e) y p q h g =
     let x = fin false m e in
     inl (above_tiny (add binary64 x y) _ _ (den x * den y) (suc k) (mul-pos (den_pos x) (den_pos y)) (sum_rounds binary64 x y p q)

@@ -127,6 +127,8 @@ called_12 x v in_range number none = (
     other e = true≢false (cc)
 
     not_refused : (v : Float) → T (finite v) → answer_from v ≡ Refused WorkNotFinite → ⊥
+    not_refused nan t r = elim t [ ]
+    not_refused (lib.Ieee.inf _) t r = elim t [ ]
     not_refused (fin s m e) t r = number≢refused r
 
 module _ (x : Float) where

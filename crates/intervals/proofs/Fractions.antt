@@ -39,6 +39,12 @@ Le x y = plus x * den y + less y * den x ≤ plus y * den x + less x * den y
 -- ---- a test is an order of fractions, by the signs: x ≤ y fails where y < x alone, which is one test of two whole numbers
 order_of_not_above : (x y : Float) → T (finite x) → T (finite y) → lt y x ≡ false → Le x y
 unfolding lt
+order_of_not_above nan y p q h = elim p [ ]
+order_of_not_above (inf _) y p q h = elim p [ ]
+order_of_not_above (fin false m e) nan p q h = elim q [ ]
+order_of_not_above (fin false m e) (inf _) p q h = elim q [ ]
+order_of_not_above (fin true m e) nan p q h = elim q [ ]
+order_of_not_above (fin true m e) (inf _) p q h = elim q [ ]
 order_of_not_above (fin false m e) (fin false n d) p q h = omega (arith, ltb-false (n * up d * down e) (m * up e * down d) h)
 order_of_not_above (fin false m e) (fin true n d) p q h = omega (arith, ltb-false 0 (n * up d * down e + m * up e * down d) h)
 order_of_not_above (fin true m e) (fin false n d) p q h = omega arith
@@ -46,6 +52,12 @@ order_of_not_above (fin true m e) (fin true n d) p q h = omega (arith, ltb-false
 
 not_above_of_order : (x y : Float) → T (finite x) → T (finite y) → Le x y → lt y x ≡ false
 unfolding lt
+not_above_of_order nan y p q h = elim p [ ]
+not_above_of_order (inf _) y p q h = elim p [ ]
+not_above_of_order (fin false m e) nan p q h = elim q [ ]
+not_above_of_order (fin false m e) (inf _) p q h = elim q [ ]
+not_above_of_order (fin true m e) nan p q h = elim q [ ]
+not_above_of_order (fin true m e) (inf _) p q h = elim q [ ]
 not_above_of_order (fin false m e) (fin false n d) p q h = le-ltb (n * up d * down e) (m * up e * down d) (omega arith)
 not_above_of_order (fin false m e) (fin true n d) p q h = le-ltb 0 (n * up d * down e + m * up e * down d) (omega arith)
 not_above_of_order (fin true m e) (fin false n d) p q h = refl
@@ -56,6 +68,8 @@ order_of_test x y p q t = order_of_not_above x y p q (tests.not_lt_of_le x y (is
 
 pub finite_number : (x : Float) → T (finite x) → is_nan x ≡ false
 unfolding is_nan
+finite_number nan p = elim p [ ]
+finite_number (inf _) p = elim p [ ]
 finite_number (fin s m e) p = refl
 
 pub test_of_order : (x y : Float) → T (finite x) → T (finite y) → Le x y → T (le x y)

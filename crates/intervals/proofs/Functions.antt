@@ -33,7 +33,7 @@ unfoldable pub exp_steps_over : Interval → ℕ → Interval → Interval
 exp_steps_over Y zero H = H
 exp_steps_over Y (suc n) H = point (real 1) ⊞ (Y ⊠ H) ÷ point (real (suc n)) ▶ exp_steps_over Y n
 
-exp_steps_lem : {Y H : Interval} {y h : Float} (n : ℕ) → In Y y → In H h → In (exp_steps_over Y n H) (exp_steps y n h)
+exp_steps_lem : {Y : Interval} {y : Float} (n : ℕ) {H : Interval} {h : Float} → In Y y → In H h → In (exp_steps_over Y n H) (exp_steps y n h)
 unfolding exp_steps_over exp_steps
 exp_steps_lem zero a b = b
 exp_steps_lem (suc n) a b = simp (computed, forced) (exp_steps_lem n a (at (real 1) ⟨⊕⟩ (a ⟨⊗⟩ b) ⟨⊘⟩ at (real (suc n))))
@@ -42,7 +42,7 @@ unfoldable pub squared_over : ℕ → Interval → Interval
 squared_over zero H = H
 squared_over (suc k) H = H ⊠ H ▶ squared_over k
 
-squares : {H : Interval} {h : Float} (k : ℕ) → In H h → In (squared_over k H) (squared k h)
+squares : (k : ℕ) {H : Interval} {h : Float} → In H h → In (squared_over k H) (squared k h)
 unfolding squared_over squared
 squares zero a = a
 squares (suc k) a = simp (computed, forced) (squares k (a ⟨⊗⟩ a))
@@ -81,7 +81,7 @@ unfoldable pub root_steps_over : ℕ → Interval → Interval → Interval
 root_steps_over zero X Y = Y
 root_steps_over (suc n) X Y = (Y ⊞ X ÷ Y) ÷ point (real 2) ▶ root_steps_over n X
 
-root_steps_lem : {X Y : Interval} {x y : Float} (n : ℕ) → In X x → In Y y → In (root_steps_over n X Y) (root_steps n x y)
+root_steps_lem : {X : Interval} {x : Float} (n : ℕ) {Y : Interval} {y : Float} → In X x → In Y y → In (root_steps_over n X Y) (root_steps n x y)
 unfolding root_steps_over root_steps
 root_steps_lem zero a b = b
 root_steps_lem (suc n) a b = simp (computed, forced) (root_steps_lem n a ((b ⟨⊕⟩ a ⟨⊘⟩ b) ⟨⊘⟩ at (real 2)))

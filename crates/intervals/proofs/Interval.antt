@@ -69,6 +69,8 @@ at (fin s m e) = interval_holds (fin s m e) (fin s m e) tt (λ z. Le_refl (fin s
 
 -- ---- squash
 squash_here : {I : Interval} (x : Float) → T (finite x) → In I x → In I (squash x)
+squash_here {I = I} nan p h = elim p [ ]
+squash_here {I = I} (inf _) p h = elim p [ ]
 squash_here (fin s m e) p h = h
 
 pub squash_in : {I : Interval} {x : Float} → In I x → In I (squash x)

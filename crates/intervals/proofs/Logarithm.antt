@@ -28,7 +28,7 @@ unfoldable pub ln_steps_over : Interval → ℕ → Interval → Interval
 ln_steps_over S zero H = H
 ln_steps_over S (suc k) H = point (real 1) ÷ point (real (2 * k + 1)) ⊞ S ⊠ H ▶ ln_steps_over S k
 
-ln_steps_lem : {S H : Interval} {s h : Float} (k : ℕ) → In S s → In H h → In (ln_steps_over S k H) (ln_steps s k h)
+ln_steps_lem : {S : Interval} {s : Float} (k : ℕ) {H : Interval} {h : Float} → In S s → In H h → In (ln_steps_over S k H) (ln_steps s k h)
 unfolding ln_steps_over ln_steps
 ln_steps_lem zero a b = b
 ln_steps_lem (suc k) a b = simp (computed, forced) (ln_steps_lem k a (at (real 1) ⟨⊘⟩ at (real (2 * k + 1)) ⟨⊕⟩ a ⟨⊗⟩ b))

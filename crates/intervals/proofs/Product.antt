@@ -44,6 +44,8 @@ module _ (c a b : Float) (p : T (finite c)) (q : T (finite a)) (r : T (finite b)
       (let z = factor_cross (less c) (den c) (plus a) (less a) (den a) (plus b) (less b) (den b) h in omega arith)
 
 pub sign_of : (c : Float) → T (finite c) → (less c ≡ 0) ⊎ (plus c ≡ 0)
+sign_of nan p = elim p [ ]
+sign_of (inf _) p = elim p [ ]
 sign_of (fin true m e) p = inr refl
 sign_of (fin false m e) p = inl refl
 
@@ -55,6 +57,12 @@ product_amid c a b y p q r s h g = elim (sign_of c p) [
 
 product_turned : (x y : Float) → T (finite x) → T (finite y) → mul binary64 x y ≡ mul binary64 y x
 unfolding mul
+product_turned nan y p q = elim p [ ]
+product_turned (inf _) y p q = elim p [ ]
+product_turned (fin false m e) nan p q = elim q [ ]
+product_turned (fin false m e) (inf _) p q = elim q [ ]
+product_turned (fin true m e) nan p q = elim q [ ]
+product_turned (fin true m e) (inf _) p q = elim q [ ]
 product_turned (fin true m e) (fin true n d) p q = ap₂ (λ (u v : ℕ). round binary64 false u v) (mul_comm (m * up e) (n * up d)) (mul_comm (down e) (down d))
 product_turned (fin true m e) (fin false n d) p q = ap₂ (λ (u v : ℕ). round binary64 true u v) (mul_comm (m * up e) (n * up d)) (mul_comm (down e) (down d))
 product_turned (fin false m e) (fin true n d) p q = ap₂ (λ (u v : ℕ). round binary64 true u v) (mul_comm (m * up e) (n * up d)) (mul_comm (down e) (down d))
@@ -91,6 +99,8 @@ unsigned (fin false m e) = true
 
 -- c is not negative, or not positive, by its sign
 pub by_sign : (X : Bool → Type 0) (c : Float) → T (finite c) → (less c ≡ 0 → X true) → (plus c ≡ 0 → X false) → X (unsigned c)
+by_sign X nan p f g = elim p [ ]
+by_sign X (inf _) p f g = elim p [ ]
 by_sign X (fin true m e) p f g = g refl
 by_sign X (fin false m e) p f g = f refl
 
@@ -99,6 +109,11 @@ zero_of a c C h = let z : a ≤ 0 = le_of_mul-le-mul_right {k = c} (omega arith)
 
 -- what is above something not negative is not negative
 above_less : (l x : Float) → T (finite x) → T (unsigned l) → Le l x → less x ≡ 0
+above_less l nan p q h = elim p [ ]
+above_less l (inf _) p q h = elim p [ ]
+above_less nan (fin true m e) p q h = elim q [ ]
+above_less (inf _) (fin true m e) p q h = elim q [ ]
+above_less (fin true n d) (fin true m e) p q h = elim q [ ]
 above_less l (fin false m e) p q h = refl
 above_less (fin false n d) (fin true m e) p q h = zero_of (m * up e) (down d) (down_pos d) (omega arith)
 

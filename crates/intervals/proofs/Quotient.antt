@@ -19,13 +19,21 @@ infixl 70 ◌÷◌
 infixl 70 ◌⟨⊘⟩◌
 -- ---- a divisor above 0
 plus_positive : (y : Float) → T (positive y) → 0 < plus y
+plus_positive lib.Ieee.nan t = elim t [ ]
+plus_positive (lib.Ieee.inf _) t = elim t [ ]
+plus_positive (fin true n d) t = elim t [ ]
 plus_positive (fin false n d) t = mul-pos (ltb→lt 0 n t) (up_pos d)
 
 positive_less : (y : Float) → T (positive y) → less y ≡ 0
+positive_less lib.Ieee.nan t = elim t [ ]
+positive_less (lib.Ieee.inf _) t = elim t [ ]
+positive_less (fin true n d) t = elim t [ ]
 positive_less (fin false n d) t = refl
 
 -- what is above something above 0 is above 0
 pub positive_up : (k y : Float) → T (positive k) → T (finite y) → Le k y → T (positive y)
+positive_up k lib.Ieee.nan p q h = elim q [ ]
+positive_up k (lib.Ieee.inf _) p q h = elim q [ ]
 positive_up k (fin true n d) p q h =
     let z = mul-pos (plus_positive k p) (down_pos d) in
     let w = rw (positive_less k p) at h in

@@ -31,6 +31,8 @@ module _ (x y : Float) where
 
 -- where a result is finite it is the operation's own
 squash_here : (x : Float) → T (finite (squash x)) → squash x ≡ x
+squash_here nan t = elim t [ ]
+squash_here (inf _) t = elim t [ ]
 squash_here (fin s m e) t = refl
 
 module _ (x y : Float) where

@@ -20,6 +20,9 @@ use Rattle.intervals.proofs.Fractions.{plus, less, Le, order_of_test, test_of_or
 -- ---- the sign goes through
 neg_below : (x y : Float) → Signed true x → Signed false y → T (le x y)
 unfolding le
+neg_below nan y p q = elim p [ ]
+neg_below (inf true) nan p q = elim q [ ]
+neg_below (fin true m e) nan p q = elim q [ ]
 neg_below (inf true) (inf false) p q = tt
 neg_below (inf true) (fin t n d) p q = tt
 neg_below (inf false) y p q = absurd (true≢false (sym p))
@@ -32,6 +35,9 @@ neg_below (fin true m e) (fin false n d) p q = test_of_order (fin true m e) (fin
 
 neg_anti : (x y : Float) → Signed false x → Signed false y → T (le x y) → T (le (neg y) (neg x))
 unfolding le neg
+neg_anti nan y p q t = elim p [ ]
+neg_anti (inf false) nan p q t = elim q [ ]
+neg_anti (fin false m e) nan p q t = elim q [ ]
 neg_anti (inf false) (inf false) p q t = tt
 neg_anti (inf false) (fin u n d) p q t = absurd t
 neg_anti (inf true) y p q t = absurd (true≢false p)
@@ -52,6 +58,10 @@ round_anti f a b c d B D h =
 
 -- ---- zero
 zeros : (x y : Float) (s t : Bool) (c d : ℕ) → 0 < c → 0 < d → HasValue x s 0 c → HasValue y t 0 d → T (le x y)
+zeros nan y s t c d C D h g = elim h [ ]
+zeros (inf _) y s t c d C D h g = elim h [ ]
+zeros (fin u m e) nan s t c d C D h g = elim g [ ]
+zeros (fin u m e) (inf _) s t c d C D h g = elim g [ ]
 zeros (fin u m e) (fin v n k) s t c d C D h g =
     let a : m * up e ≤ 0 = le_of_mul-le-mul_right {k = c} (let z = h.1 in omega arith) C in
     let b : n * up k ≤ 0 = le_of_mul-le-mul_right {k = d} (let z = g.1 in omega arith) D in
@@ -132,6 +142,12 @@ rounds_same f x p n p' n' c e g h = subst₂ (λ (u v : ℕ). Rounds f x u v c) 
 
 pub sum_rounds : (f : Format) (x y : Float) → T (finite x) → T (finite y) → Rounds f (add f x y) (plus x * den y + plus y * den x) (less x * den y + less y * den x) (den x * den y)
 unfolding add
+sum_rounds f nan y p q = elim p [ ]
+sum_rounds f (inf _) y p q = elim p [ ]
+sum_rounds f (fin false m e) nan p q = elim q [ ]
+sum_rounds f (fin false m e) (inf _) p q = elim q [ ]
+sum_rounds f (fin true m e) nan p q = elim q [ ]
+sum_rounds f (fin true m e) (inf _) p q = elim q [ ]
 sum_rounds f (fin false m e) (fin false n d) p q = rounds_same f _ _ _ _ _ _ (omega arith) (omega arith) (signed_sum f false (m * up e * down d) false (n * up d * down e) (down e * down d))
 sum_rounds f (fin false m e) (fin true n d) p q = rounds_same f _ _ _ _ _ _ (omega arith) (omega arith) (signed_sum f false (m * up e * down d) true (n * up d * down e) (down e * down d))
 sum_rounds f (fin true m e) (fin false n d) p q = rounds_same f _ _ _ _ _ _ (omega arith) (omega arith) (signed_sum f true (m * up e * down d) false (n * up d * down e) (down e * down d))
@@ -139,6 +155,12 @@ sum_rounds f (fin true m e) (fin true n d) p q = rounds_same f _ _ _ _ _ _ (omeg
 
 pub product_rounds : (f : Format) (x y : Float) → T (finite x) → T (finite y) → Rounds f (mul f x y) (plus x * plus y + less x * less y) (plus x * less y + less x * plus y) (den x * den y)
 unfolding mul
+product_rounds f nan y p q = elim p [ ]
+product_rounds f (inf _) y p q = elim p [ ]
+product_rounds f (fin false m e) nan p q = elim q [ ]
+product_rounds f (fin false m e) (inf _) p q = elim q [ ]
+product_rounds f (fin true m e) nan p q = elim q [ ]
+product_rounds f (fin true m e) (inf _) p q = elim q [ ]
 product_rounds f (fin false m e) (fin false n d) p q = rounds_up f _ (m * up e * (n * up d)) _ _ _ (omega arith) refl
 product_rounds f (fin false m e) (fin true n d) p q = rounds_down f _ (m * up e * (n * up d)) _ _ _ (omega arith) refl
 product_rounds f (fin true m e) (fin false n d) p q = rounds_down f _ (m * up e * (n * up d)) _ _ _ (omega arith) refl
@@ -150,6 +172,14 @@ not_0 n h = ne_eqb n 0 (λ e. omega arith)
 -- a divisor above zero
 pub quotient_rounds : (f : Format) (x y : Float) → T (finite x) → T (positive y) → Rounds f (div f x y) (plus x * den y) (less x * den y) (plus y * den x)
 unfolding div
+quotient_rounds f nan y p q = elim p [ ]
+quotient_rounds f (inf _) y p q = elim p [ ]
+quotient_rounds f (fin false m e) nan p q = elim q [ ]
+quotient_rounds f (fin false m e) (inf _) p q = elim q [ ]
+quotient_rounds f (fin false m e) (fin true n d) p q = elim q [ ]
+quotient_rounds f (fin true m e) nan p q = elim q [ ]
+quotient_rounds f (fin true m e) (inf _) p q = elim q [ ]
+quotient_rounds f (fin true m e) (fin true n d) p q = elim q [ ]
 quotient_rounds f (fin false m e) (fin false n d) p q = rw (not_0 n (ltb→lt 0 n q)) (rounds_up f _ (m * up e * down d) _ _ _ (omega arith) refl)
 quotient_rounds f (fin true m e) (fin false n d) p q = rw (not_0 n (ltb→lt 0 n q)) (rounds_down f _ (m * up e * down d) _ _ _ (omega arith) refl)
 

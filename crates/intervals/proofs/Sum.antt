@@ -49,10 +49,18 @@ negated (ends l h) = ends (neg h) (neg l)
 
 pub neg_finite : (x : Float) → T (finite x) → T (finite (neg x))
 unfolding neg
+neg_finite lib.Ieee.nan p = elim p [ ]
+neg_finite (lib.Ieee.inf _) p = elim p [ ]
 neg_finite (fin s m e) p = tt
 
 neg_order : (x y : Float) → T (finite x) → T (finite y) → Le x y → Le (neg y) (neg x)
 unfolding neg
+neg_order lib.Ieee.nan y p q h = elim p [ ]
+neg_order (lib.Ieee.inf _) y p q h = elim p [ ]
+neg_order (fin false m e) lib.Ieee.nan p q h = elim q [ ]
+neg_order (fin false m e) (lib.Ieee.inf _) p q h = elim q [ ]
+neg_order (fin true m e) lib.Ieee.nan p q h = elim q [ ]
+neg_order (fin true m e) (lib.Ieee.inf _) p q h = elim q [ ]
 neg_order (fin true m e) (fin true n d) p q h = omega arith
 neg_order (fin true m e) (fin false n d) p q h = omega arith
 neg_order (fin false m e) (fin true n d) p q h = omega arith

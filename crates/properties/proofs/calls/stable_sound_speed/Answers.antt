@@ -11,8 +11,8 @@ pub returns-in-Granted : goal.returns-in-Granted
 unfolding sound_speed_value
 returns-in-Granted c =
     c.answer_from.ensures
-    ∙ ap answer_from (c.sound_speed_value.ensures ∙ ap sound_speed_from at)
-    ∙ sym (permitted_granted _ _ (stable_at _ _ at ∙ sym c.stability_permit-permit.ensures ∙ c.in-Granted.is))
+    ∙ ap answer_from (c.sound_speed_value.ensures ∙ ap sound_speed_from c.stability_of-stability.ensures)
+    ∙ sym (permitted_granted _ _ (stable_at _ _ c.stability_of-stability.ensures ∙ sym c.stability_permit-permit.ensures ∙ c.in-Granted.is))
 
 pub returns-in-Denied : goal.returns-in-Denied
 returns-in-Denied c =
