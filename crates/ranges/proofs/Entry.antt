@@ -55,6 +55,17 @@ pub record Finite (F : Fluid) (t r : Float) : Type 0 where
   pub entropy : T (le (two⁻ 60) (state_at F t r).delta) → T (finite (entropy_value (state_at F t r)))
 
 all_finite_lem : (F : Fluid) (t r : Float) (S : State) → T (all_known S) → T (finite (state_at F t r).delta) → InState (state_at F t r) S → Finite F t r
+all_finite_lem F t r (state Rattle.intervals.proofs.Interval.unknown energy enthalpy isochoric _ _ _ isobaric helmholtz gibbs entropy) ok d _ = elim ok [ ]
+all_finite_lem F t r (state (ends _ _) Rattle.intervals.proofs.Interval.unknown enthalpy isochoric _ _ _ isobaric helmholtz gibbs entropy) ok d _ = elim ok [ ]
+all_finite_lem F t r (state (ends _ _) (ends _ _) Rattle.intervals.proofs.Interval.unknown isochoric _ _ _ isobaric helmholtz gibbs entropy) ok d _ = elim ok [ ]
+all_finite_lem F t r (state (ends _ _) (ends _ _) (ends _ _) Rattle.intervals.proofs.Interval.unknown _ _ _ isobaric helmholtz gibbs entropy) ok d _ = elim ok [ ]
+all_finite_lem F t r (state (ends _ _) (ends _ _) (ends _ _) (ends _ _) Rattle.intervals.proofs.Interval.unknown _ _ isobaric helmholtz gibbs entropy) ok d _ = elim ok [ ]
+all_finite_lem F t r (state (ends _ _) (ends _ _) (ends _ _) (ends _ _) (ends _ _) Rattle.intervals.proofs.Interval.unknown _ isobaric helmholtz gibbs entropy) ok d _ = elim ok [ ]
+all_finite_lem F t r (state (ends _ _) (ends _ _) (ends _ _) (ends _ _) (ends _ _) (ends _ _) Rattle.intervals.proofs.Interval.unknown isobaric helmholtz gibbs entropy) ok d _ = elim ok [ ]
+all_finite_lem F t r (state (ends _ _) (ends _ _) (ends _ _) (ends _ _) (ends _ _) (ends _ _) (ends _ _) Rattle.intervals.proofs.Interval.unknown helmholtz gibbs entropy) ok d _ = elim ok [ ]
+all_finite_lem F t r (state (ends _ _) (ends _ _) (ends _ _) (ends _ _) (ends _ _) (ends _ _) (ends _ _) (ends _ _) Rattle.intervals.proofs.Interval.unknown gibbs entropy) ok d _ = elim ok [ ]
+all_finite_lem F t r (state (ends _ _) (ends _ _) (ends _ _) (ends _ _) (ends _ _) (ends _ _) (ends _ _) (ends _ _) (ends _ _) Rattle.intervals.proofs.Interval.unknown entropy) ok d _ = elim ok [ ]
+all_finite_lem F t r (state (ends _ _) (ends _ _) (ends _ _) (ends _ _) (ends _ _) (ends _ _) (ends _ _) (ends _ _) (ends _ _) (ends _ _) Rattle.intervals.proofs.Interval.unknown) ok d _ = elim ok [ ]
 all_finite_lem F t r (state (ends _ _) (ends _ _) (ends _ _) (ends _ _) (ends _ _) (ends _ _) (ends _ _) (ends _ _) (ends _ _) (ends _ _) (ends _ _)) ok d (p, e, h, c, v, k, q, cp, rest) = record {
   reduced = d;
   pressure = in_known tt p;

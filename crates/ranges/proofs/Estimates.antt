@@ -135,6 +135,9 @@ unfolding of_int round
 finite_zero = tt
 
 three_finite : (F : Fluid) (t : Float) (Z : Three) → T (three_known Z) → InThree F t Z → T (finite (pressure_estimate F t)) × T (finite (liquid_estimate F t)) × T (finite (vapour_estimate F t))
+three_finite F t (three Rattle.intervals.proofs.Interval.unknown liquid vapour) k _ = elim k [ ]
+three_finite F t (three (ends _ _) Rattle.intervals.proofs.Interval.unknown vapour) k _ = elim k [ ]
+three_finite F t (three (ends _ _) (ends _ _) Rattle.intervals.proofs.Interval.unknown) k _ = elim k [ ]
 three_finite F t (three (ends _ _) (ends _ _) (ends _ _)) k (p, l, v) = (in_known tt p, in_known tt l, in_known tt v)
 
 module _ (F : Fluid) (fine : T (estimate_ends (entry_of F))) (ok : T (estimates_known (entry_of F))) (t : Float) where

@@ -23,7 +23,9 @@ pub shape_of-least-then-out-to-lt16 : goal.shape_of-least-then-out-to-lt16
 shape_of-least-then-out-to-lt16 c = omega (arith, c.loop-k.invariant.2.0.1, c.requires.1)
 
 pub returns-then-out-to-lt16 : goal.returns-then-out-to-lt16
-returns-then-out-to-lt16 c = stopped _ _ _ _ c.loop-k.invariant.1 c.loop-k-test.true c.if-out-to-lt16.true
+returns-then-out-to-lt16 c =
+    let (value, out_after) = stopped _ _ _ _ c.loop-k.invariant.1 c.loop-k-test.true c.if-out-to-lt16.true in
+    record { value = value; out_after = out_after }
 
 pub prepare_next-kept-requires : goal.prepare_next-kept-requires
 prepare_next-kept-requires c = c.loop-k.invariant.2
@@ -48,4 +50,6 @@ pub shape_of-least : goal.shape_of-least
 shape_of-least c = omega (arith, c.loop-k.invariant.2.0.1, c.requires.1)
 
 pub returns : goal.returns
-returns c = finished _ _ _ _ c.loop-k.invariant.1 c.loop-k-test.false c.loop-k.invariant.0
+returns c =
+    let (value, out_after) = finished _ _ _ _ c.loop-k.invariant.1 c.loop-k-test.false c.loop-k.invariant.0 in
+    record { value = value; out_after = out_after }
