@@ -140,7 +140,7 @@ module _ (s out : List ℕ) where
   call_code_lem codes listed =
       by_permit permit
       (λ g. inl (code_where_granted permit (work_of (question_of s)) answered_there g))
-      (λ r d. rw d (inr (listed r d)))
+      (λ r d. inr (subst (λ (p : Permit). OneOf (answer_code_of (permitted p (work_of (question_of s)))) codes) (sym d) (listed r d)))
 
   granted_by_code : call_code s out ≡ 0 → permit ≡ Granted
   unfolding permit call_code call_of

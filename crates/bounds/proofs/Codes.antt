@@ -1,6 +1,6 @@
 -- The code of each call is one of few, whatever its inputs are: a permit denies with one of its tests' refusals, and where it is granted the
 -- call answers, or the plain search ends with 8.
-use mathlib.Core.Path.{◌≡◌, refl, ap}
+use mathlib.Core.Path.{◌≡◌, refl, sym, ap, subst}
 use mathlib.Core.Logic.{inl, inr}
 use mathlib.Core.Bool.{Bool, true}
 use mathlib.Core.List.{List, [], ◌∷◌, ◌++◌}
@@ -11,6 +11,7 @@ use lib.Dec.{T}
 use lib.ListN.{length}
 use Rattle.refusals.specs.declared.Refusal.{Refusal}
 use Rattle.refusals.specs.declared.Refusal.TheVariants.{NoCell}
+use Rattle.refusals.specs.declared.Permit.{Permit}
 use Rattle.refusals.specs.declared.Permit.TheVariants.{Granted}
 use Rattle.refusals.specs.Code.{answer_code_of}
 use Rattle.refusals.specs.Order.{first_of, permitted}
@@ -43,7 +44,7 @@ permitted_code : (codes : List ℕ) (tests : List (Bool × Refusal)) (v : Float)
 permitted_code codes tests v all number =
     by_permit (first_of tests)
     (λ g. inl (ap answer_code_of (answered (first_of tests) v g (number g))))
-    (λ r d. rw d (inr (denied_code codes tests all r d)))
+    (λ r d. inr (subst (λ (p : Permit). OneOf (answer_code_of (permitted p (answer_from v))) codes) (sym d) (denied_code codes tests all r d)))
 
 -- ---- the properties
 module _ (F : Fluid) (t ρ : Float) where

@@ -65,6 +65,8 @@ both_granted (Denied r) s v n m e = absurd (n (cc))
 -- what is apart from 0 by 2⁻⁵⁴ is that large
 apart_large : (x : Float) → T (finite x) → Apart 54 x → Large 54 x
 unfolding round neg
+apart_large lib.Ieee.nan f _ = elim f [ ]
+apart_large (lib.Ieee.inf _) f _ = elim f [ ]
 apart_large (fin true m e) f (inl t) = let h = order_of_test (two⁻ 54) (fin true m e) finite_two⁻54 f t in omega arith
 apart_large (fin false m e) f (inl t) = let h = order_of_test (two⁻ 54) (fin false m e) finite_two⁻54 f t in omega arith
 apart_large (fin true m e) f (inr t) = let h = order_of_test (fin true m e) (neg (two⁻ 54)) f (neg_finite (two⁻ 54) finite_two⁻54) t in omega arith
