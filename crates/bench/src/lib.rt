@@ -28,22 +28,19 @@ use search::{Found, Side};
 
 // ---- the elementary functions
 
-#[unsafe(no_mangle)]
-pub extern "C" fn bench_exp(x: f64) -> f64
+pub fn bench_exp(x: f64) -> f64
     ensures { result ≡ exp_of x }
 {
     exp(x)
 }
 
-#[unsafe(no_mangle)]
-pub extern "C" fn bench_ln(x: f64) -> f64
+pub fn bench_ln(x: f64) -> f64
     ensures { result ≡ ln_of x }
 {
     ln(x)
 }
 
-#[unsafe(no_mangle)]
-pub extern "C" fn bench_root(x: f64) -> f64
+pub fn bench_root(x: f64) -> f64
     ensures { result ≡ root_of x }
 {
     root(x)
@@ -61,29 +58,25 @@ fn number_or_nan(answer: Answer) -> f64
     }
 }
 
-#[unsafe(no_mangle)]
-pub extern "C" fn bench_pressure(number: u32, t: f64, rho: f64) -> f64
+pub fn bench_pressure(number: u32, t: f64, rho: f64) -> f64
     ensures { result ≡ number_of (by_number Refused number (λ F. pressure_of F t rho)) }
 {
     number_or_nan(pressure(number, t, rho))
 }
 
-#[unsafe(no_mangle)]
-pub extern "C" fn bench_entropy(number: u32, t: f64, rho: f64) -> f64
+pub fn bench_entropy(number: u32, t: f64, rho: f64) -> f64
     ensures { result ≡ number_of (by_number Refused number (λ F. entropy_of F t rho)) }
 {
     number_or_nan(entropy(number, t, rho))
 }
 
-#[unsafe(no_mangle)]
-pub extern "C" fn bench_isobaric(number: u32, t: f64, rho: f64) -> f64
+pub fn bench_isobaric(number: u32, t: f64, rho: f64) -> f64
     ensures { result ≡ number_of (by_number Refused number (λ F. isobaric_of F t rho)) }
 {
     number_or_nan(isobaric_heat_capacity(number, t, rho))
 }
 
-#[unsafe(no_mangle)]
-pub extern "C" fn bench_sound_speed(number: u32, t: f64, rho: f64) -> f64
+pub fn bench_sound_speed(number: u32, t: f64, rho: f64) -> f64
     ensures { result ≡ number_of (by_number Refused number (λ F. sound_speed_of F t rho)) }
 {
     number_or_nan(sound_speed(number, t, rho))
@@ -105,8 +98,7 @@ fn total_of(fluid: Fluid, t: f64, densities: &[f64]) -> f64
 }
 
 // That sum for the fluid of a number, and a NaN where no fluid has it.
-#[unsafe(no_mangle)]
-pub extern "C" fn bench_isotherm(number: u32, t: f64, densities: &[f64]) -> f64
+pub fn bench_isotherm(number: u32, t: f64, densities: &[f64]) -> f64
     ensures { result ≡ isotherm_of number t densities.now }
 {
     let named = fluid_numbered(number);
@@ -139,36 +131,26 @@ fn side_of(n: u32) -> Side
     }
 }
 
-#[unsafe(no_mangle)]
-pub extern "C" fn bench_plain(number: u32, t: f64, p: f64, c: usize, side: u32) -> f64
+pub fn bench_plain(number: u32, t: f64, p: f64, c: usize, side: u32) -> f64
     ensures { result ≡ found_density (plain_from number t p c side) }
 {
     found_density(plain(number, t, p, c, side_of(side)))
 }
 
-#[unsafe(no_mangle)]
-pub extern "C" fn bench_plain_code(number: u32, t: f64, p: f64, c: usize, side: u32) -> u32
+pub fn bench_plain_code(number: u32, t: f64, p: f64, c: usize, side: u32) -> u32
     ensures { result ≡ found_code_of (plain_from number t p c side) }
 {
     found_code(plain(number, t, p, c, side_of(side)))
 }
 
-#[unsafe(no_mangle)]
-pub extern "C" fn bench_plain_word(number: u32, t: f64, p: f64, c: usize, side: u32) -> u64
+pub fn bench_plain_word(number: u32, t: f64, p: f64, c: usize, side: u32) -> u64
     ensures { result ≡ found_word_of (plain_from number t p c side) }
 {
     found_word(plain(number, t, p, c, side_of(side)))
 }
 
 // 0 where the lists are ready, else the refusal's number.
-#[unsafe(no_mangle)]
-pub extern "C" fn bench_prepare(
-    number: u32,
-    t: f64,
-    c: usize,
-    greatest: &mut [f64],
-    least: &mut [f64],
-) -> u32
+pub fn bench_prepare(number: u32, t: f64, c: usize, greatest: &mut [f64], least: &mut [f64]) -> u32
     ensures { (result ≡ prepared_code_of (prepare_by number t c greatest.old least.old))
         × (greatest.new ≡ greatest_by number t c greatest.old least.old)
         × (least.new ≡ least_by number t c greatest.old least.old) }
@@ -176,8 +158,7 @@ pub extern "C" fn bench_prepare(
     prepared_code(prepare(number, t, c, greatest, least))
 }
 
-#[unsafe(no_mangle)]
-pub extern "C" fn bench_quick(
+pub fn bench_quick(
     number: u32,
     t: f64,
     p: f64,
@@ -191,8 +172,7 @@ pub extern "C" fn bench_quick(
     found_density(quick(number, t, p, c, side_of(side), greatest, least))
 }
 
-#[unsafe(no_mangle)]
-pub extern "C" fn bench_quick_code(
+pub fn bench_quick_code(
     number: u32,
     t: f64,
     p: f64,
@@ -206,8 +186,7 @@ pub extern "C" fn bench_quick_code(
     found_code(quick(number, t, p, c, side_of(side), greatest, least))
 }
 
-#[unsafe(no_mangle)]
-pub extern "C" fn bench_quick_word(
+pub fn bench_quick_word(
     number: u32,
     t: f64,
     p: f64,

@@ -4,27 +4,23 @@
 
 mod pairs;
 
-use libc::STDOUT_FILENO;
 use pairs::pairs_that_differ;
 use preparation::prepare;
 use search::Prepared;
+use std::io;
 
 // R-245ca.
 const FLUID: u32 = 0;
 
-fn main() {
+fn main(rt: HostRuntime) -> io::Result<()> {
     let mut greatest = [0.0; 1665];
     let mut least = [0.0; 1665];
     let prepared = prepare(FLUID, 400.0, 1664, &mut greatest, &mut least);
     match prepared {
         Prepared::Ready => {
             let count = pairs_that_differ(FLUID, 400.0, 1664, &greatest, &least);
-            io::print_decimal(STDOUT_FILENO, count);
+            println!(rt; "{count}")
         }
-        Prepared::Refused(r) => {
-            io::write_all(STDOUT_FILENO, b"not prepared: refusal ");
-            io::print_decimal(STDOUT_FILENO, refusals::code(r) as u64);
-        }
+        Prepared::Refused(r) => println!(rt; "not prepared: refusal {}", refusals::code(r)),
     }
-    io::write_all(STDOUT_FILENO, b"\n");
 }

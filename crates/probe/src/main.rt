@@ -4,9 +4,9 @@
 // gets one reply, with code 15.
 #![tactic(auto)]
 
-ghost use Rattle.std.specs.Prelude.{◌≡◌, length};
+ghost use Rattle.std.specs.Prelude.{◌≡◌, ◌≤◌, length};
 
-use libc::{STDIN_FILENO, STDOUT_FILENO};
+use std::io::{self, ErrorKind, Read, Write};
 
 // Room for 2,730 questions, and for as many replies.
 fn question_block() -> [u8; 65520]
@@ -21,27 +21,44 @@ fn reply_block() -> [u8; 43680]
     [0; 43680]
 }
 
-// Answers one block of questions; false where the input ended, or the replies could not be written.
-fn block() -> bool {
+// Reads on until the block is full, or the input ends or cannot be read: how many bytes it has.
+fn read_block(rt: &HostRuntime, block: &mut [u8]) -> usize
+    ensures { result ≤ length block.old }
+{
+    let mut n = 0;
+    for _ in 0..u64::MAX {
+        if n >= block.len() {
+            return n;
+        }
+        match rt.stdin().read(&mut block[n..]) {
+            Ok(0) => return n,
+            Ok(more) => n += more,
+            Err(e) => {
+                if e.kind() != ErrorKind::Interrupted {
+                    return n;
+                }
+            }
+        }
+    }
+    n
+}
+
+// Answers one block of questions; false where the input ended.
+fn block(rt: &HostRuntime) -> io::Result<bool> {
     let mut input = question_block();
     let mut out = reply_block();
-    let n = io::read_full(STDIN_FILENO, &mut input);
+    let n = read_block(rt, &mut input);
     let end = probe_replies::put_replies(&input[..n], &mut out);
-    let written = io::write_all(STDOUT_FILENO, &out[..end]);
-    if n < 65520 {
-        return false;
-    }
-    written
+    rt.stdout().write_all(&out[..end])?;
+    Ok(n == 65520)
 }
 
 // No file is as long as 2⁴⁰ blocks; a loop has to end.
-fn main() {
-    let mut turns: u64 = 0;
-    while turns < 1099511627776 {
-        if block() {
-            turns += 1;
-        } else {
-            return;
+fn main(rt: HostRuntime) -> io::Result<()> {
+    for _ in 0..1099511627776u64 {
+        if !block(&rt)? {
+            return Ok(());
         }
     }
+    Ok(())
 }

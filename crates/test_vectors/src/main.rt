@@ -6,9 +6,9 @@
 
 ghost use Rattle.std.specs.Prelude.{◌≡◌, ◌+◌, ◌≤◌, length};
 
-use libc::{STDIN_FILENO, STDOUT_FILENO};
 use probe_words::Reply;
 use refusals::code;
+use std::io::{self, ErrorKind, Read};
 use words::word;
 
 // Room for 8,190 questions.
@@ -18,58 +18,61 @@ fn question_block() -> [u8; 196560]
     [0; 196560]
 }
 
-fn print(text: &[u8]) {
-    io::write_all(STDOUT_FILENO, text);
-}
-
-fn print_bits(w: u64) {
-    io::print_hex(STDOUT_FILENO, w, 16);
-}
-
-fn print_reply(reply: Reply) {
-    match reply {
-        Reply::Holds(second) => {
-            print(b"0 ");
-            print_bits(second);
+// Reads on until the block is full, or the input ends or cannot be read: how many bytes it has.
+fn read_block(rt: &HostRuntime, block: &mut [u8]) -> usize
+    ensures { result ≤ length block.old }
+{
+    let mut n = 0;
+    for _ in 0..u64::MAX {
+        if n >= block.len() {
+            return n;
         }
-        Reply::Refused(r) => {
-            io::print_decimal(STDOUT_FILENO, code(r) as u64);
-            print(b" ----------------");
+        match rt.stdin().read(&mut block[n..]) {
+            Ok(0) => return n,
+            Ok(more) => n += more,
+            Err(e) => {
+                if e.kind() != ErrorKind::Interrupted {
+                    return n;
+                }
+            }
         }
     }
-    print(b"\n");
+    n
 }
 
 // The line of the question at the front of s.
-fn print_line(s: &[u8])
+fn print_line(rt: &HostRuntime, s: &[u8]) -> io::Result<()>
     requires { 24 ≤ length s.now }
 {
     let call = word(s);
     let first = word(&s[8..]);
     let second = word(&s[16..]);
-    io::print_decimal(STDOUT_FILENO, call);
-    print(b" ");
-    print_bits(first);
-    print(b" ");
-    print_bits(second);
-    print(b" ");
-    print_reply(probe_replies::reply_to(call, first, second));
-}
-
-fn print_lines(s: &[u8]) {
-    let mut from: usize = 0;
-    while from < s.len() {
-        if s.len() - from < 24 {
-            return;
+    match probe_replies::reply_to(call, first, second) {
+        Reply::Holds(bits) => println!(rt; "{call} {first:016x} {second:016x} 0 {bits:016x}"),
+        Reply::Refused(r) => {
+            println!(rt;
+                "{call} {first:016x} {second:016x} {} ----------------",
+                code(r)
+            )
         }
-        print_line(&s[from..]);
-        from += 24;
     }
 }
 
-fn main() {
+fn print_lines(rt: &HostRuntime, s: &[u8]) -> io::Result<()> {
+    let mut from: usize = 0;
+    while from < s.len() {
+        if s.len() - from < 24 {
+            return Ok(());
+        }
+        print_line(rt, &s[from..])?;
+        from += 24;
+    }
+    Ok(())
+}
+
+fn main(rt: HostRuntime) -> io::Result<()> {
     let mut input = question_block();
-    let n = io::read_full(STDIN_FILENO, &mut input);
-    print(b"call first second code bits\n");
-    print_lines(&input[..n]);
+    let n = read_block(&rt, &mut input);
+    println!(rt; "call first second code bits")?;
+    print_lines(&rt, &input[..n])
 }

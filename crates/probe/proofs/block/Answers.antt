@@ -8,8 +8,8 @@ use Rattle.probe.proofs.block.Goals as goal
 
 pub slice_bounds-out-end : goal.slice_bounds-out-end
 slice_bounds-out-end c =
-    omega (arith, replies_inside _ _ _ _ c.put_replies-end.ensures.0 c.put_replies-end.ensures.1)
+    omega (arith, replies_inside _ _ _ _ c.put_replies-end.ensures.value c.put_replies-end.ensures.out_after)
 
 pub slice_bounds-write_all-end : goal.slice_bounds-write_all-end
 slice_bounds-write_all-end c =
-    sym (length-take-le _ _ (replies_inside _ _ _ _ c.put_replies-end.ensures.0 c.put_replies-end.ensures.1))
+    sym (length-take-le _ _ (replies_inside _ _ _ _ c.put_replies-end.ensures.value c.put_replies-end.ensures.out_after))
