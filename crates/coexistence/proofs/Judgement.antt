@@ -1,6 +1,6 @@
 -- Whether the judge accepts, as the four tests that the code works, and what becomes of one pair of the sequence by them.
-use mathlib.Core.Path.{◌≡◌, refl, sym, ◌∙◌, ap}
-use mathlib.Core.Bool.{Bool, true, false, cond, ◌&&◌, and-false}
+use mathlib.Core.Path.{◌≡◌, sym, ◌∙◌, ap}
+use mathlib.Core.Bool.{Bool, true, false, ◌&&◌, and-false}
 use mathlib.Core.List.{List, [], ◌∷◌, ◌++◌}
 use lib.Ieee.{Float}
 use Rattle.refusals.specs.declared.Refusal.{Refusal}
@@ -12,7 +12,6 @@ use Rattle.refusals.proofs.Needed.{also, first_of_both}
 use Rattle.refusals.proofs.InOrder.{granted_both, granted_one, granted_two}
 use Rattle.fluids.specs.declared.Fluid.{Fluid}
 use Rattle.inputs.specs.Inputs.{pair_tests, pair_permit}
-use Rattle.coexistence.specs.declared.proposer.Judged.{Judged}
 use Rattle.coexistence.specs.declared.proposer.Judged.TheVariants.{Accepted, GoesOn, Ends}
 use Rattle.coexistence.specs.Phase.{compared_at}
 use Rattle.coexistence.specs.Judge.{ordered, all_finite, meets, verdict_tests, verdict_of, judge_of}

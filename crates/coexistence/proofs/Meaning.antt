@@ -1,27 +1,25 @@
 -- The judge accepts exactly the saturation pairs: its tests, one by one, are what the statement spells out; that all numbers are finite then follows,
 -- as no comparison holds of a NaN.
-use mathlib.Core.Path.{◌≡◌, refl, sym, ◌∙◌, ap}
+use mathlib.Core.Path.{◌≡◌, sym, ◌∙◌, ap}
 use mathlib.Core.Logic.{◌↔◌}
-use mathlib.Core.Bool.{Bool, true, false, ◌&&◌}
+use mathlib.Core.Bool.{Bool, true, ◌&&◌}
 use lib.Ieee.{Float, lt, le}
-use lib.Ieee.Scale.{finite}
 use Rattle.refusals.specs.declared.Permit.TheVariants.{Granted}
 use Rattle.refusals.specs.Order.{granted}
 use Rattle.refusals.proofs.Tests.{and_passed}
 use Rattle.refusals.proofs.InOrder.{is_granted}
-use Rattle.arithmetic.specs.Checked.{real, squash, minus, between, ◌⊖◌}
+use Rattle.arithmetic.specs.Checked.{real, squash, minus, ◌⊖◌}
 use Rattle.arithmetic.proofs.Operations.{⊕_squashed, ⊖_squashed, ⊗_squashed}
 use Rattle.arithmetic.proofs.Settled.{finite_above, finite_under, finite_parts}
 use Rattle.fluids.specs.declared.Fluid.{Fluid}
 use Rattle.fluids.specs.Entries.{entry_of}
-use Rattle.kept.specs.Kept.{kept_of}
 use Rattle.equation.specs.declared.state.State.{State}
 use Rattle.equation.specs.State.{state_at, pressure_value}
 use Rattle.stability.specs.Stability.{Q}
 use Rattle.values.specs.Values.{gibbs_over_RT}
 use Rattle.inputs.specs.Inputs.{pair_permit}
 use Rattle.coexistence.specs.Phase.{phase_of, compared_by, compared_at}
-use Rattle.coexistence.specs.Judge.{ordered, phase_finite, all_finite, meets, near, pressure_bound, value_bound, judge_of}
+use Rattle.coexistence.specs.Judge.{ordered, all_finite, meets, near, pressure_bound, value_bound, judge_of}
 use Rattle.coexistence.specs.Accepted.{SaturationPair}
 use Rattle.coexistence.proofs.Judgement.{accepts_is}
 

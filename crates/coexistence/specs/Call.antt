@@ -1,6 +1,6 @@
 -- 02, M-105: the proposer's pair into an output whose first sixteen bytes get it: the liquid's and then the vapour's density; 17, 2, 3, 7, then as the
 -- proposer refuses.
-use Rattle.std.specs.Prelude.{Bool, List, ◌++◌, ℕ, leb, Float, length, drop}
+use Rattle.std.specs.Prelude.{List, ◌++◌, ℕ, leb, Float, length, drop}
 use Rattle.std.specs.Float.{binary64}
 use Rattle.std.specs.Float.Ieee.{to_bits}
 use Rattle.refusals.specs.declared.Refusal.{Refusal}

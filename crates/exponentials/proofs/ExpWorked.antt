@@ -9,7 +9,6 @@ use Rattle.exponentials.specs.Exp.{exp_steps, squared, exp_work, exp_of}
 use Rattle.arithmetic.proofs.Operations.{⊗_left}
 use Rattle.arithmetic.proofs.Forced.{forced}
 use Rattle.arithmetic.proofs.Within.{within_after}
-use Rattle.exponentials.proofs.Literals.{squash_two⁻10}
 
 work : Float → Float
 work g = squared 10 (exp_steps (g ⊗ two⁻ 10) 16 (real 1))

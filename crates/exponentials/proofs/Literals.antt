@@ -3,7 +3,7 @@ use mathlib.Core.Path.{◌≡◌, refl}
 use lib.Dec.{T}
 use lib.Ieee.{neg, binary64, of_bits, of_int, round}
 use lib.Ieee.Scale.{finite}
-use Rattle.arithmetic.specs.Checked.{real, ◌e-◌, two⁻, squash, minus}
+use Rattle.arithmetic.specs.Checked.{real, two⁻, squash, minus}
 
 pub lit_700 : of_bits binary64 0x4085e00000000000 ≡ real 700
 unfolding of_bits of_int round

@@ -6,8 +6,7 @@ use borrow.Author.Tests.{eqb-true}
 use lib.Dec.{eqb}
 use Rattle.fluids.specs.declared.Fluid.{Fluid}
 use Rattle.fluids.specs.declared.Fluid.TheVariants.{R245ca, R245fa}
-use Rattle.fluids.specs.declared.Named.{Named}
-use Rattle.fluids.specs.declared.Named.TheVariants.{Known, Unknown}
+use Rattle.fluids.specs.declared.Named.TheVariants.{Known}
 use Rattle.fluids.specs.Entries.{letter_of, fluid_lettered}
 
 -- one letter: it is this one's, or those after it are looked through

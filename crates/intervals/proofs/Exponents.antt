@@ -17,7 +17,6 @@ use Rattle.logarithms.specs.Ln.{Split}
 use Rattle.logarithms.proofs.ExactSplit.{lt→cross, two_at_least}
 use Rattle.arithmetic.proofs.Order.{lt→le}
 use Rattle.intervals.proofs.Rounding.{round_anti, signs_apart}
-use Rattle.intervals.proofs.Interval.{at}
 
 -- ---- powers of two
 -- 2ᵉ is at most half of 2ᶠ; 2ᵉ ≤ 2ᶠ

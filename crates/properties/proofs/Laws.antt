@@ -14,7 +14,7 @@ use Rattle.refusals.specs.declared.Answer.{Answer}
 use Rattle.refusals.specs.declared.Answer.TheVariants.{Number, Refused}
 use Rattle.refusals.proofs.Needed.{permitted_granted}
 use Rattle.refusals.proofs.Tests.{holds}
-use Rattle.arithmetic.specs.Checked.{real, squash, between, ◌⊗◌, ◌⊘◌}
+use Rattle.arithmetic.specs.Checked.{real, squash, between, ◌⊗◌}
 use Rattle.arithmetic.specs.Answered.{answer_from}
 use Rattle.arithmetic.proofs.Zeros.{Vanishes, PlusZero, NotNegative, product_not_negative}
 use Rattle.fluids.specs.declared.Fluid.{Fluid}

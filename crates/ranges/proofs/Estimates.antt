@@ -13,7 +13,6 @@ use lib.Ieee.Scale.{finite}
 use Rattle.arithmetic.specs.Checked.{real, two⁻, ◌⊖◌, ◌⊘◌}
 use Rattle.logarithms.specs.Ln.{ln_of}
 use Rattle.arithmetic.proofs.Forced.{forced}
-use Rattle.arithmetic.proofs.Order as tests
 use Rattle.fluids.specs.declared.Estimate.{Estimate}
 use Rattle.fluids.specs.declared.Estimate.TheVariants.{Alone, Raised}
 use Rattle.fluids.specs.declared.Fluid.{Fluid}

@@ -1,12 +1,11 @@
 -- What is worked at a state, over intervals of T, ρ and δ, for any fluid: the ideal part, V, K, Q, and every property but sound speed.
-use mathlib.Core.Path.{◌≡◌}
 use mathlib.Core.List.{List}
 use Prim.Native.Nat.{ℕ, zero, suc}
 use lib.Dec.{T}
 use lib.ListN.{get_or, length}
 use lib.Ieee.{Float, nan, binary64, round, fits, le}
 use lib.Ieee.Scale.{finite}
-use Rattle.arithmetic.specs.Checked.{real, two⁻, ◌⊕◌, ◌⊖◌, ◌⊗◌, ◌⊘◌}
+use Rattle.arithmetic.specs.Checked.{real, two⁻, ◌⊖◌, ◌⊘◌}
 use Rattle.logarithms.specs.Ln.{ln_of}
 use Rattle.arithmetic.proofs.Forced.{forced}
 use Rattle.arithmetic.proofs.Operations.{⊕_squashed}

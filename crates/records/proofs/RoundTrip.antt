@@ -5,7 +5,6 @@ use mathlib.Core.List.{List, [], ◌∷◌, ◌++◌, append-nil}
 use Prim.Native.Nat.{ℕ, suc, ◌+◌, ◌^◌, ◌≤◌, ◌<◌}
 use native.Mathlib.Omega.{arith}
 use borrow.Author.Tests.{eq-eqb}
-use lib.Dec.{eqb}
 use lib.ListN.{length, take, drop, replicate, length-drop}
 use lib.Seq.{take-suc, take_all, take-add, drop_at, drop-drop, get_or-drop}
 use Rattle.words.specs.Word.{byte_at, word_of, bytes_of, Bytes}
@@ -13,13 +12,12 @@ use Rattle.words.proofs.Digits.{word_of_bytes, bytes_of_word}
 use Rattle.words.proofs.Written.{bytes_length}
 use Rattle.fluids.specs.declared.Fluid.{Fluid}
 use Rattle.fluids.specs.declared.Named.{Named}
-use Rattle.fluids.specs.Entries.{letter_of, fluid_lettered}
+use Rattle.fluids.specs.Entries.{fluid_lettered}
 use Rattle.fluids.proofs.Lettered.{this_or_after, lettered_letter as fluid_by_letter, letter_lettered as letter_of_fluid}
 use Rattle.records.specs.declared.Kind.{Kind}
 use Rattle.records.specs.declared.Kind.TheVariants.{Density, FromBelow, FromAbove, NoSide, NoReading}
 use Rattle.records.specs.declared.Lettered.{Lettered}
 use Rattle.records.specs.declared.Lettered.TheVariants.{Known, Unknown}
-use Rattle.records.specs.declared.Record.{Record}
 use Rattle.records.specs.declared.Record.TheVariants.{Marked}
 use Rattle.records.specs.Record.{kind_letter, kind_lettered, mark_of, carries_numbers, carried, layout_of, numbers_of, by_kind, of_fluid, by_fluid, marked_of, record_of}
 use Rattle.records.proofs.Whole.{whole_length}

@@ -1,19 +1,18 @@
 -- What follows of the run's call from its definition, for readers who want 02's sentences one by one.
-use mathlib.Core.Path.{◌≡◌, refl, sym, ◌∙◌, ap}
+use mathlib.Core.Path.{◌≡◌, sym, ◌∙◌, ap}
 use mathlib.Core.Logic.{◌⊎◌, inl, inr, ◌↔◌}
-use mathlib.Core.List.{List, [], ◌∷◌, ◌++◌}
+use mathlib.Core.List.{List, [], ◌++◌}
 use Prim.Native.Nat.{ℕ, ◌+◌, ◌*◌, ◌≤◌, ◌<◌}
 use native.Mathlib.Omega.{arith}
 use borrow.Author.Tests.{le-leb, lt-leb, leb-true, leb-false, ne_eqb}
-use lib.Dec.{leb, eqb}
-use lib.ListN.{length, take, drop, get_or, length-take, length-drop}
+use lib.Dec.{leb}
+use lib.ListN.{length, drop, get_or, length-take, length-drop}
 use lib.Seq.{drop_at, get_or-take, get_or-drop}
 use Rattle.refusals.specs.declared.Refusal.{Refusal}
 use Rattle.refusals.specs.declared.Refusal.TheVariants.{TooShort, TooManyRecords}
 use Rattle.refusals.specs.declared.Permit.{Permit}
 use Rattle.refusals.specs.declared.Permit.TheVariants.{Granted, Denied}
 use Rattle.refusals.specs.Code.{permit_code_of}
-use Rattle.refusals.specs.Order.{left_by}
 use Rattle.refusals.proofs.Tests.{by}
 use Rattle.refusals.proofs.Apart.{another_code}
 use Rattle.refusals.proofs.InOrder.{by_permit}

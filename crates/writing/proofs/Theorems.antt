@@ -4,12 +4,10 @@ use mathlib.Core.Logic.{◌↔◌, inl, inr}
 use mathlib.Core.Bool.{true, false}
 use mathlib.Core.List.{List, [], ◌∷◌, ◌++◌}
 use Prim.Native.Nat.{ℕ, ◌+◌, ◌^◌, ◌≤◌, ◌<◌}
-use native.Mathlib.Omega.{arith}
 use borrow.Author.Tests.{le-leb, lt-leb, leb-true, leb-false}
 use lib.Dec.{leb}
 use lib.ListN.{length, take, drop, replicate}
-use Rattle.refusals.specs.declared.Refusal.TheVariants.{UnknownMark, UnknownFluid, TooShort}
-use Rattle.refusals.specs.Code.{code_of, OneOf}
+use Rattle.refusals.specs.Code.{OneOf}
 use Rattle.refusals.proofs.Tests.{by}
 use Rattle.refusals.proofs.Apart.{another_code}
 use Rattle.words.specs.Word.{Bytes, placed}

@@ -1,7 +1,6 @@
 -- `bench_isotherm` meets its contract: the sum for the fluid that the number names, or 0/0, which, worked out, is `nan`. Assumes nothing.
 use mathlib.Core.Path.{refl}
 use lib.Ieee.{nan, div, of_bits}
-use borrow.Author.Rules.{rules}
 use Rattle.refusals.specs.declared.Refusal.{Refusal}
 use Rattle.inputs.proofs.Named.{known_fluid, unknown_fluid}
 use Rattle.bench.proofs.bench_isotherm.Goals as goal

@@ -1,16 +1,9 @@
 -- `total_of` meets its contract. The loop's invariant: the total is that of the first i densities. The measure is what
 -- is left of them. Assumes nothing.
-use mathlib.Core.Path.{◌≡◌, ◌∙◌, ap}
-use mathlib.Core.List.{List}
-use Prim.Native.Nat.{ℕ, ◌≤◌, ◌-◌, ◌+◌}
-use native.Mathlib.Numerals.{add-one}
-use native.Mathlib.Omega.{arith}
-use borrow.Author.Rules.{rules}
-use lib.Ieee.{Float, nan, binary64, add}
-use lib.ListN.{length, get_or}
-use Rattle.arithmetic.proofs.Literals.{lit_0}
+use mathlib.Core.Path.{◌≡◌}
+use Prim.Native.Nat.{◌≤◌, ◌-◌}
+use lib.ListN.{length}
 use Rattle.equation.specs.State.{pressure_at}
-use Rattle.kept.specs.declared.Kept.{Kept}
 use Rattle.bench.specs.Doors.{total_to}
 use Rattle.bench.proofs.total_of.Given as goal
 

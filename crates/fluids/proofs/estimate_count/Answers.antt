@@ -1,6 +1,5 @@
 -- `estimate_count` meets its contract: the counts of the code are the lengths of the definition's lists, fluid by fluid and curve by curve. Assumes nothing.
 use mathlib.Core.Path.{refl}
-use borrow.Author.Rules.{rules}
 use Rattle.fluids.specs.R245ca.{r245ca}
 use Rattle.fluids.specs.R245fa.{r245fa}
 use Rattle.fluids.specs.Entries.{entry_of}

@@ -1,7 +1,6 @@
 -- `letter` meets its contract, fluid by fluid. Assumes nothing.
 use mathlib.Core.Path.{refl}
 use Rattle.fluids.specs.Entries.{letter_of}
-use borrow.Author.Rules.{rules}
 use Rattle.fluids.proofs.letter.Goals as goal
 
 pub returns-in-R245ca : goal.returns-in-R245ca

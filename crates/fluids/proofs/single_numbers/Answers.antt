@@ -1,6 +1,5 @@
 -- `single_numbers` meets its contract: the single numbers are those of the entry, fluid by fluid, by computing both. Assumes nothing.
 use mathlib.Core.Path.{refl}
-use borrow.Author.Rules.{rules}
 use lib.Ieee.{of_bits, of_int, round, neg}
 use Rattle.arithmetic.specs.Checked.{minus}
 use Rattle.fluids.specs.R245ca.{r245ca}

@@ -1,6 +1,5 @@
 -- `terms` meets its contract: the rows of the code are those of the definition, fluid by fluid, by computing both. Assumes nothing.
 use mathlib.Core.Path.{refl}
-use borrow.Author.Rules.{rules}
 use lib.Ieee.{of_bits, of_int, round, neg}
 use Rattle.arithmetic.specs.Checked.{minus}
 use Rattle.fluids.specs.R245ca.{r245ca}

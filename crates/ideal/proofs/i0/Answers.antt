@@ -1,6 +1,5 @@
 -- `i0` meets its contract: squash goes through each operation, and the entry's own numbers are finite. Assumes nothing.
-use mathlib.Core.Path.{◌≡◌, sym, ◌∙◌, ap}
-use borrow.Author.Rules.{rules}
+use mathlib.Core.Path.{◌≡◌, ◌∙◌, ap}
 use lib.Ieee.{Float}
 use Rattle.arithmetic.proofs.Operations.{squash_add, squash_sub, squash_mul, ⊗_left, ⊗_right}
 use Rattle.logarithms.proofs.Ranges.{ln_squashed}

@@ -1,6 +1,5 @@
 -- `i2` meets its contract: squash goes through each operation, and the entry's own numbers are finite. Assumes nothing.
-use mathlib.Core.Path.{◌≡◌, sym, ◌∙◌, ap}
-use borrow.Author.Rules.{rules}
+use mathlib.Core.Path.{◌≡◌, ◌∙◌, ap}
 use lib.Ieee.{Float}
 use Rattle.arithmetic.proofs.Operations.{squash_add, squash_sub, squash_mul}
 use Rattle.arithmetic.proofs.Literals.{lit_1, squash_1}

@@ -1,6 +1,5 @@
 -- `part0` meets its contract: squash goes through each operation, and exp and ln do not see it. Assumes nothing.
 use mathlib.Core.Path.{◌≡◌, sym, ◌∙◌}
-use borrow.Author.Rules.{rules}
 use Rattle.arithmetic.specs.Checked.{real, minus, ◌⊖◌, ◌⊘◌}
 use Rattle.exponentials.specs.Exp.{exp_of}
 use Rattle.logarithms.specs.Ln.{ln_of}

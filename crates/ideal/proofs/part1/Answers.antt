@@ -1,6 +1,5 @@
 -- `part1` meets its contract: squash goes through each operation, and the divisor, which is worked, is tested. Assumes nothing.
 use mathlib.Core.Path.{◌≡◌, sym, ◌∙◌, ap}
-use borrow.Author.Rules.{rules}
 use lib.Ieee.{Float}
 use Rattle.arithmetic.specs.Checked.{◌⊘◌}
 use Rattle.exponentials.specs.Exp.{exp_of}

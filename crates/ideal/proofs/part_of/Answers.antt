@@ -1,7 +1,5 @@
 -- `part_of` meets its contract, part by part. Assumes nothing.
 use mathlib.Core.Path.{sym, ◌∙◌, ap}
-use borrow.Author.Rules.{rules}
-use lib.Ieee.{Float}
 use Rattle.ideal.specs.declared.Part.{Part}
 use Rattle.ideal.specs.Ideal.{part_of}
 use Rattle.ideal.proofs.part_of.Goals as goal

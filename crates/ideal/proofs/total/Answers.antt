@@ -1,10 +1,7 @@
 -- `total` meets its contract. The loop's invariant: s is the sum over the first i pairs. The measure is what is left of them.
 -- Assumes nothing.
 use mathlib.Core.Path.{◌≡◌, sym, ◌∙◌, ap}
-use Prim.Native.Nat.{◌≤◌, ◌-◌}
 use native.Mathlib.Omega.{arith}
-use borrow.Author.Rules.{rules}
-use Rattle.arithmetic.specs.Checked.{squash}
 use Rattle.arithmetic.proofs.Literals.{lit_0, squash_0}
 use Rattle.fluids.proofs.Sound.{sound}
 use Rattle.ideal.specs.Ideal.{part_of, total_to, total_of}

@@ -1,6 +1,5 @@
 -- `density_permitted` meets its contract: its test is that of the range. Assumes nothing.
 use mathlib.Core.Path.{sym}
-use borrow.Author.Rules.{rules}
 use Rattle.fluids.specs.Entries.{entry_of}
 use Rattle.fluids.proofs.Limits.{in_density}
 use Rattle.inputs.proofs.density_permitted.Goals as goal

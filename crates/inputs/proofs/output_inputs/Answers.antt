@@ -1,7 +1,6 @@
 -- `output_inputs` meets its contract: the room is one test more than the first two. Assumes nothing.
 use mathlib.Core.Path.{refl, ◌∙◌, ap}
 use mathlib.Core.Bool.{Bool}
-use borrow.Author.Rules.{rules}
 use lib.Ieee.Scale.{finite}
 use Rattle.refusals.specs.declared.Refusal.TheVariants as refuses
 use Rattle.refusals.proofs.InOrder.{one_test}

@@ -1,5 +1,4 @@
 -- `pair_finite` meets its contract: its tests are those of the definition, one after the other. Assumes nothing.
-use borrow.Author.Rules.{rules}
 use Rattle.refusals.proofs.Tests.{then_second, not_first}
 use Rattle.inputs.proofs.pair_finite.Goals as goal
 

@@ -1,5 +1,4 @@
 -- `pair_permitted` meets its contract: the test of the one density, and then that of the other. Assumes nothing.
-use borrow.Author.Rules.{rules}
 use Rattle.refusals.proofs.Tests.{then_second, not_first}
 use Rattle.inputs.proofs.pair_permitted.Goals as goal
 

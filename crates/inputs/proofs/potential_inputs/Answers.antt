@@ -1,7 +1,6 @@
 -- `potential_inputs` meets its contract: one test more than those of a state. Assumes nothing.
 use mathlib.Core.Path.{ap}
 use mathlib.Core.Bool.{not}
-use borrow.Author.Rules.{rules}
 use lib.Ieee.{Float, eq}
 use Rattle.refusals.specs.declared.Refusal.TheVariants as refuses
 use Rattle.refusals.proofs.InOrder.{one_test}

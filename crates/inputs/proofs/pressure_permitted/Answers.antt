@@ -1,6 +1,5 @@
 -- `pressure_permitted` meets its contract: its test is that of the range. Assumes nothing.
 use mathlib.Core.Path.{sym}
-use borrow.Author.Rules.{rules}
 use Rattle.fluids.specs.Entries.{entry_of}
 use Rattle.fluids.proofs.Limits.{in_pressure}
 use Rattle.inputs.proofs.pressure_permitted.Goals as goal

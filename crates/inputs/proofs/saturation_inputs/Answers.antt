@@ -1,7 +1,6 @@
 -- `saturation_inputs` meets its contract: one test more than the first two, against the entry's own critical temperature. Assumes nothing.
 use mathlib.Core.Path.{◌∙◌, ap}
 use mathlib.Core.Bool.{Bool}
-use borrow.Author.Rules.{rules}
 use lib.Ieee.{le}
 use lib.Ieee.Scale.{finite}
 use Rattle.refusals.specs.declared.Refusal.TheVariants as refuses

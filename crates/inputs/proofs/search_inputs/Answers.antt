@@ -1,7 +1,6 @@
 -- `search_inputs` meets its contract: two tests more than those of an asked pressure. Assumes nothing.
 use mathlib.Core.Path.{refl}
 use mathlib.Core.List.{[], ◌∷◌, ◌++◌}
-use borrow.Author.Rules.{rules}
 use Rattle.refusals.specs.declared.Refusal.TheVariants as refuses
 use Rattle.refusals.proofs.InOrder.{one_test}
 use Rattle.inputs.specs.Inputs as Inputs

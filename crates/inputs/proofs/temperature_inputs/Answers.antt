@@ -1,10 +1,8 @@
 -- `temperature_inputs` meets its contract: its two tests, one after the other. Assumes nothing.
 use mathlib.Core.Path.{refl}
 use mathlib.Core.List.{[], ◌∷◌}
-use borrow.Author.Rules.{rules}
 use Rattle.refusals.specs.declared.Refusal.TheVariants as refuses
 use Rattle.refusals.proofs.InOrder.{one_test}
-use Rattle.inputs.specs.Inputs as Inputs
 use Rattle.inputs.proofs.temperature_inputs.Goals as goal
 
 pub returns : goal.returns

@@ -1,6 +1,5 @@
 -- `top_permitted` meets its contract: its two comparisons are those of the range, against the entry's own top. Assumes nothing.
 use mathlib.Core.Path.{sym, ap}
-use borrow.Author.Rules.{rules}
 use borrow.Author.Tests.{le-leb, lt-leb}
 use lib.Dec.{leb}
 use Rattle.fluids.specs.declared.Constants.{Constants}

@@ -4,7 +4,6 @@ use Rattle.kept.specs.Kept.{bell_at}
 use Rattle.arithmetic.proofs.Operations.{squash_mul, squash_sub}
 use Rattle.arithmetic.proofs.Literals.{lit_0, squash_0}
 use Rattle.fluids.specs.Finite.{FiniteTerm}
-use borrow.Author.Rules.{rules}
 use Rattle.kept.proofs.bell_part.Goals as goal
 
 pub returns-in-Plain : goal.returns-in-Plain

@@ -2,13 +2,11 @@
 -- Assumes nothing.
 use mathlib.Core.Path.{◌≡◌, sym, ◌∙◌, ap}
 use mathlib.Core.List.{map}
-use Prim.Native.Nat.{◌≤◌, ◌-◌}
 use native.Mathlib.Omega.{arith}
-use borrow.Author.Rules.{rules}
 use lib.ListN.{get_or, get_or-map}
 use Rattle.arithmetic.specs.Checked.{squash}
 use Rattle.kept.specs.Kept.{bell_at}
-use Rattle.exponentials.proofs.Filled.{Filled, none_filled, one_filled, all_filled}
+use Rattle.exponentials.proofs.Filled.{none_filled, one_filled, all_filled}
 use Rattle.fluids.proofs.Table.{read_row, read_row_finite, copied_length}
 use Rattle.fluids.specs.Entry.{no_term}
 use Rattle.kept.proofs.bells_at.Goals as goal

@@ -1,7 +1,6 @@
 -- `exponent` meets its contract, by the three kinds. Assumes nothing.
 use mathlib.Core.Path.{sym, ap}
 use Rattle.kept.specs.Kept.{exponent_of}
-use borrow.Author.Rules.{rules}
 use Rattle.kept.proofs.exponent.Goals as goal
 
 pub returns-in-Bell : goal.returns-in-Bell

@@ -8,7 +8,6 @@ use Rattle.fluids.specs.declared.Constants.{Constants}
 use Rattle.fluids.specs.Entries.{entry_of}
 use Rattle.fluids.proofs.Sound.{sound}
 use Rattle.kept.specs.Kept.{kept_of}
-use borrow.Author.Rules.{rules}
 use Rattle.kept.proofs.keep.Goals as goal
 
 pub returns : goal.returns

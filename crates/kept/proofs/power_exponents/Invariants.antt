@@ -1,18 +1,13 @@
 -- `power_exponents` meets its contract, row by row. The measure is what is left of the rows. Assumes nothing.
-use mathlib.Core.Path.{◌≡◌, refl, sym, ◌∙◌, ap}
+use mathlib.Core.Path.{◌≡◌}
 use mathlib.Core.List.{List}
 use Prim.Native.Nat.{ℕ, ◌+◌, ◌≤◌, ◌-◌}
-use native.Mathlib.Omega.{arith}
-use borrow.Author.Rules.{rules}
 use lib.Ieee.{Float}
-use Rattle.arithmetic.specs.Checked.{◌⊗◌}
 use Rattle.exponentials.specs.Exp.{exp_of}
-use Rattle.exponentials.proofs.ExpRange.{exp_squash}
-use Rattle.arithmetic.proofs.Places.{Worked, none_worked, one_worked, all_worked}
+use Rattle.arithmetic.proofs.Places.{Worked}
 use Rattle.fluids.specs.declared.Term.{Term}
-use Rattle.kept.specs.Kept.{exponent_of, power_at}
+use Rattle.kept.specs.Kept.{power_at}
 use Rattle.fluids.specs.Entry.{term_of}
-use Rattle.fluids.proofs.Table.{read_row}
 use Rattle.kept.proofs.power_exponents.Given as goal
 
 abbrev pub Done : Float → List Term → ℕ → ℕ → Float → Type 0

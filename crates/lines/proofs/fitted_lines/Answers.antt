@@ -1,11 +1,8 @@
 -- `fitted_lines` meets its contract. The loop's invariant: the first k records' lines are printed. The measure is how many are left.
 -- Assumes nothing.
-use mathlib.Core.Path.{◌≡◌}
-use Prim.Native.Nat.{◌-◌, ◌≤◌}
 use native.Mathlib.Omega.{arith}
 use borrow.Author.Rules.{rules}
-use Rattle.records.specs.Run.{record_count}
-use Rattle.lines.proofs.Printed.{Printed, none_yet, one_more, finished}
+use Rattle.lines.proofs.Printed.{none_yet, one_more, finished}
 use Rattle.lines.proofs.fitted_lines.Goals as goal
 
 pub loop-k-init : goal.loop-k-init

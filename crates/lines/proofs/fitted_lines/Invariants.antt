@@ -2,10 +2,8 @@
 -- Assumes nothing.
 use mathlib.Core.Path.{◌≡◌}
 use Prim.Native.Nat.{◌-◌, ◌≤◌}
-use native.Mathlib.Omega.{arith}
-use borrow.Author.Rules.{rules}
 use Rattle.records.specs.Run.{record_count}
-use Rattle.lines.proofs.Printed.{Printed, none_yet, one_more, finished}
+use Rattle.lines.proofs.Printed.{Printed}
 use Rattle.lines.proofs.fitted_lines.Given as goal
 
 abbrev pub invariant-loop-k : goal.invariant-loop-k

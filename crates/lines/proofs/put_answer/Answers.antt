@@ -8,7 +8,6 @@ use Rattle.lines.specs.Lines.{bits_text, spaced, answer_text}
 use Rattle.lines.proofs.Digits.{decimal_small}
 use Rattle.lines.proofs.Lengths.{spaced_length, bits_length}
 use Rattle.lines.proofs.Placing.{then, as_text}
-use borrow.Author.Rules.{rules}
 use Rattle.lines.proofs.put_answer.Goals as goal
 
 pub put_bits-requires : goal.put_bits-requires

@@ -4,7 +4,6 @@ use Prim.Native.Nat.{ℕ}
 use Rattle.lines.specs.Text.{digits_of}
 use Rattle.lines.specs.Lines.{bits_text}
 use Rattle.lines.proofs.Placing.{as_text}
-use borrow.Author.Rules.{rules}
 use Rattle.lines.proofs.put_bits.Goals as goal
 
 pub returns-in-Number : goal.returns-in-Number

@@ -1,11 +1,10 @@
 -- `put_dashes` meets its contract. The loop's invariant: k dashes were put. The measure is how many are left. Assumes nothing.
 use mathlib.Core.Path.{◌≡◌, ap}
 use mathlib.Core.List.{List, [], ◌∷◌, ◌++◌}
-use Prim.Native.Nat.{ℕ, ◌+◌, ◌-◌, ◌≤◌}
+use Prim.Native.Nat.{ℕ, ◌+◌}
 use native.Mathlib.Omega.{arith}
 use native.Mathlib.Numerals.{add-one}
 use borrow.Author.Rules.{rules}
-use lib.ListN.{length}
 use Rattle.lines.specs.Text.{Put}
 use Rattle.lines.specs.Lines.{dashes}
 use Rattle.lines.proofs.Lengths.{dashes_length}

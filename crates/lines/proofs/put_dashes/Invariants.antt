@@ -1,15 +1,9 @@
 -- `put_dashes` meets its contract. The loop's invariant: k dashes were put. The measure is how many are left. Assumes nothing.
-use mathlib.Core.Path.{◌≡◌, ap}
-use mathlib.Core.List.{List, [], ◌∷◌, ◌++◌}
-use Prim.Native.Nat.{ℕ, ◌+◌, ◌-◌, ◌≤◌}
-use native.Mathlib.Omega.{arith}
-use native.Mathlib.Numerals.{add-one}
-use borrow.Author.Rules.{rules}
+use mathlib.Core.Path.{◌≡◌}
+use Prim.Native.Nat.{◌-◌, ◌≤◌}
 use lib.ListN.{length}
 use Rattle.lines.specs.Text.{Put}
 use Rattle.lines.specs.Lines.{dashes}
-use Rattle.lines.proofs.Lengths.{dashes_length}
-use Rattle.lines.proofs.Placing.{nothing, then, as_text, put_length}
 use Rattle.lines.proofs.put_dashes.Given as goal
 
 abbrev pub invariant-loop-k : goal.invariant-loop-k

@@ -9,7 +9,6 @@ use Rattle.lines.specs.Lines.{mark_text, spaced, answer_text, line_of}
 use Rattle.lines.proofs.Digits.{decimal_small}
 use Rattle.lines.proofs.Lengths.{spaced_length, mark_length, answer_small}
 use Rattle.lines.proofs.Placing.{then, as_text}
-use borrow.Author.Rules.{rules}
 use Rattle.lines.proofs.put_line.Goals as goal
 
 pub put_spaced_mark-code-requires : goal.put_spaced_mark-code-requires

@@ -8,7 +8,6 @@ use native.Mathlib.Omega.{arith}
 use lib.ListN.{length, drop}
 use Rattle.lines.specs.Text.{Put}
 use Rattle.lines.specs.Lines.{lines_fit, lines_of, lines_put}
-use borrow.Author.Rules.{rules}
 use Rattle.lines.proofs.put_lines.Goals as goal
 
 module _ (first : ℕ) (s out : List ℕ) where

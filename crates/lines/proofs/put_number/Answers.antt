@@ -2,7 +2,6 @@
 use native.Mathlib.Omega.{arith}
 use Rattle.lines.proofs.Digits.{decimal_small}
 use Rattle.lines.proofs.Placing.{then}
-use borrow.Author.Rules.{rules}
 use Rattle.lines.proofs.put_number.Goals as goal
 
 pub put_byte-requires : goal.put_byte-requires

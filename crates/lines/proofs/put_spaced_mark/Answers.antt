@@ -2,7 +2,6 @@
 use native.Mathlib.Omega.{arith}
 use Rattle.lines.proofs.Lengths.{mark_length}
 use Rattle.lines.proofs.Placing.{then}
-use borrow.Author.Rules.{rules}
 use Rattle.lines.proofs.put_spaced_mark.Goals as goal
 
 pub put_byte-requires : goal.put_byte-requires

@@ -1,11 +1,8 @@
 -- `clear` meets its contract. The invariant: the places under j hold +0, the others what they held; the measure is the places left.
 -- Assumes nothing.
-use mathlib.Core.Path.{◌≡◌, sym, ◌∙◌}
-use Prim.Native.Nat.{◌+◌, ◌-◌, ◌≤◌}
+use mathlib.Core.Path.{sym, ◌∙◌}
 use native.Mathlib.Omega.{arith}
-use Rattle.arithmetic.specs.Checked.{real}
 use Rattle.arithmetic.proofs.Literals.{lit_0}
-use Rattle.search.specs.Lists.{filled}
 use Rattle.search.proofs.Filling.{fill_start, fill_length, fill_next, fill_end}
 use Rattle.lists.proofs.InRoom.{cleared_in_room, cleared_without}
 use Rattle.lists.proofs.clear.Goals as goal

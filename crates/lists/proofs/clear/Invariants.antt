@@ -1,13 +1,9 @@
 -- `clear` meets its contract. The invariant: the places under j hold +0, the others what they held; the measure is the places left.
 -- Assumes nothing.
-use mathlib.Core.Path.{◌≡◌, sym, ◌∙◌}
+use mathlib.Core.Path.{◌≡◌}
 use Prim.Native.Nat.{◌+◌, ◌-◌, ◌≤◌}
-use native.Mathlib.Omega.{arith}
 use Rattle.arithmetic.specs.Checked.{real}
-use Rattle.arithmetic.proofs.Literals.{lit_0}
 use Rattle.search.specs.Lists.{filled}
-use Rattle.search.proofs.Filling.{fill_start, fill_length, fill_next, fill_end}
-use Rattle.lists.proofs.InRoom.{cleared_in_room, cleared_without}
 use Rattle.lists.proofs.clear.Given as goal
 
 abbrev pub invariant-loop-j : goal.invariant-loop-j

@@ -1,13 +1,9 @@
 -- `sweep_up` meets its contract. The invariant: the places 0 .. j hold the greatest so far, the others what they held; the measure is the
 -- places left. Assumes nothing.
-use mathlib.Core.Path.{◌≡◌, sym, ◌∙◌}
+use mathlib.Core.Path.{◌≡◌}
 use Prim.Native.Nat.{◌+◌, ◌-◌, ◌≤◌}
-use native.Mathlib.Omega.{arith}
 use Rattle.search.specs.Lists.{greatest, filled}
 use Rattle.search.specs.Quick.{entries_of}
-use Rattle.search.proofs.Filling.{fill_length, fill_end}
-use Rattle.lists.proofs.InRoom.{up_in_room, up_without}
-use Rattle.lists.proofs.Sweeps.{up_start, up_next}
 use Rattle.lists.proofs.sweep_up.Given as goal
 
 abbrev pub invariant-loop-j : goal.invariant-loop-j

@@ -2,11 +2,9 @@
 -- nothing.
 use mathlib.Core.Path.{◌≡◌, sym, ◌∙◌}
 use mathlib.Core.Bool.{true, not, true≢false}
-use borrow.Author.Rules.{rules}
 use lib.Dec.{T}
 use lib.Ieee.{Float, nan, inf, fin, is_nan}
 use lib.Ieee.Scale.{finite}
-use Rattle.arithmetic.specs.Checked.{squash, ◌e-◌}
 use Rattle.logarithms.specs.Ln.{ln_of}
 use Rattle.arithmetic.proofs.Within.{within_in, within_low, within_high, finite_within}
 use Rattle.logarithms.proofs.Literals.{lit_two⁻60, lit_two60, finite_two⁻60, finite_two60}

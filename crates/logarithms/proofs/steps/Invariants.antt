@@ -1,15 +1,10 @@
 -- `steps` meets its contract. The loop's invariant: the table is the sheet of 1/n, which is computed for all of it at once, and the
 -- steps that are left, from the present H, end where all ten do from 1/21. The measure is k. Assumes nothing.
-use mathlib.Core.Path.{◌≡◌, refl, sym, ◌∙◌, ap}
-use Prim.Native.Nat.{◌-◌, ◌≤◌}
-use native.Mathlib.Omega.{arith}
-use borrow.Author.Rules.{rules}
-use lib.Ieee.{of_bits, of_int, round, div}
+use mathlib.Core.Path.{◌≡◌}
+use Prim.Native.Nat.{◌≤◌}
 use Rattle.arithmetic.specs.Checked.{squash, real, ◌⊘◌}
 use Rattle.logarithms.specs.Ln.{ln_steps}
-use Rattle.arithmetic.proofs.Operations.{squash_add, squash_mul}
-use Rattle.logarithms.proofs.Turns.{ln_turn}
-use Rattle.logarithms.proofs.Reciprocals.{listed, IsSheet, sheet_at}
+use Rattle.logarithms.proofs.Reciprocals.{IsSheet}
 use Rattle.logarithms.proofs.steps.Given as goal
 
 abbrev pub invariant-loop-k : goal.invariant-loop-k

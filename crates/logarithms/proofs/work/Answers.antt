@@ -1,7 +1,6 @@
 -- `work` meets its contract: squash goes through each operation, and m+1, the one divisor that is worked, is finite.
 -- Assumes nothing.
 use mathlib.Core.Path.{◌≡◌, ◌∙◌}
-use borrow.Author.Rules.{rules}
 use lib.Dec.{T}
 use lib.Ieee.{Float, binary64, add, sub, div, le, lt}
 use lib.Ieee.Bits.{is_true}

@@ -1,7 +1,6 @@
 -- `found_bits` meets its contract, by the two forms of what was found. Assumes nothing.
 use mathlib.Core.Path.{◌∙◌, sym, ap}
 use Rattle.outcomes.specs.Parts.{found_bits_of}
-use borrow.Author.Rules.{rules}
 use Rattle.outcomes.proofs.found_bits.Goals as goal
 
 pub returns-in-State : goal.returns-in-State

@@ -1,6 +1,5 @@
 -- `found_code` meets its contract: 0 of a state, and the number of a refusal. Assumes nothing.
 use mathlib.Core.Path.{refl, sym, ◌∙◌, ap}
-use borrow.Author.Rules.{rules}
 use Rattle.outcomes.specs.Codes.{found_code_of}
 use Rattle.outcomes.proofs.found_code.Goals as goal
 

@@ -1,6 +1,5 @@
 -- `prepared_code` meets its contract: 0 where the lists are ready, and the number of a refusal. Assumes nothing.
 use mathlib.Core.Path.{refl, sym, ◌∙◌, ap}
-use borrow.Author.Rules.{rules}
 use Rattle.outcomes.specs.Codes.{prepared_code_of}
 use Rattle.outcomes.proofs.prepared_code.Goals as goal
 

@@ -1,7 +1,6 @@
 -- `word_number` meets its contract, word by word. Assumes nothing.
 use mathlib.Core.Path.{sym, ap}
 use Rattle.outcomes.specs.Parts.{word_number_of}
-use borrow.Author.Rules.{rules}
 use Rattle.outcomes.proofs.word_number.Goals as goal
 
 pub returns-in-Fluid : goal.returns-in-Fluid

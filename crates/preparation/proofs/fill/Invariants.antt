@@ -1,18 +1,11 @@
 -- `fill` meets its contract. The invariant: both lists hold the pressures in the places under j and none of them gave 12; the measure
 -- is the places left. Assumes nothing.
 use mathlib.Core.Path.{◌≡◌}
-use mathlib.Core.Bool.{true, false}
+use mathlib.Core.Bool.{false}
 use Prim.Native.Nat.{◌+◌, ◌-◌, ◌≤◌}
-use native.Mathlib.Omega.{arith}
-use borrow.Author.Rules.{rules}
-use Rattle.steps.proofs.Inside.{at_end}
 use Rattle.search.specs.Plain.{at_ends}
 use Rattle.search.specs.Lists.{some_not_finite, filled}
-use Rattle.search.proofs.Filling.{fill_start, fill_length, fill_next, fill_end}
-use Rattle.search.proofs.PreparationFails.{fails_exactly}
-use Rattle.search.proofs.Turns.{not_finite_start, not_finite_turn}
 use Rattle.steps.specs.Steps.{step_pressure_of}
-use Rattle.steps.proofs.Seen.{nan_seen}
 use Rattle.preparation.proofs.fill.Given as goal
 
 abbrev pub invariant-loop-j : goal.invariant-loop-j

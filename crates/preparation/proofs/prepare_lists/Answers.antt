@@ -4,7 +4,6 @@ use mathlib.Core.Path.{◌∙◌}
 use native.Mathlib.Omega.{arith}
 use Rattle.lists.proofs.InRoom.{up_in_room, down_in_room, cleared_in_room}
 use Rattle.preparation.proofs.Outcomes.{lists_ready, lists_cleared}
-use borrow.Author.Rules.{rules}
 use Rattle.preparation.proofs.prepare_lists.Goals as goal
 
 pub returns-then-fill : goal.returns-then-fill

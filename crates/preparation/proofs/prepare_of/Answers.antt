@@ -3,7 +3,6 @@ use Rattle.inputs.specs.Inputs.{prepare_permit}
 use Rattle.inputs.proofs.Passed.{prepare_granted}
 use Rattle.preparation.proofs.Outcomes.{prepare_refused, prepare_answered}
 use Rattle.inputs.proofs.Passed.{inputs_with_room}
-use borrow.Author.Rules.{rules}
 use Rattle.preparation.proofs.prepare_of.Goals as goal
 
 pub prepare_lists-requires : goal.prepare_lists-requires

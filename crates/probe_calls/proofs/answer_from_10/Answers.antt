@@ -1,6 +1,5 @@
 -- `answer_from_10` meets its contract: its tests are those of `look_up`, row by row. Assumes nothing.
 use mathlib.Core.Path.{◌∙◌, sym}
-use borrow.Author.Rules.{rules}
 use Rattle.probe_calls.proofs.Rows.{found, passed_over}
 use Rattle.probe_calls.proofs.answer_from_10.Goals as goal
 

@@ -2,7 +2,6 @@
 -- the number names. Assumes nothing.
 use mathlib.Core.Path.{◌∙◌, sym, ap}
 use Prim.Native.Nat.{◌%◌}
-use borrow.Author.Rules.{rules}
 use Rattle.refusals.specs.declared.Refusal.TheVariants.{UnknownMark}
 use Rattle.refusals.specs.declared.Answer.TheVariants.{Refused}
 use Rattle.fluids.specs.declared.Named.{Named}

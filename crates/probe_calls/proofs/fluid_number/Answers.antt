@@ -1,7 +1,6 @@
 -- `fluid_number` meets its contract: a number of more than 32 bits names no fluid, and neither does the greatest. Assumes nothing.
 use mathlib.Core.Path.{refl, sym, ◌∙◌}
 use native.Mathlib.Omega.{arith}
-use borrow.Author.Rules.{rules}
 use Rattle.probe_calls.proofs.Numbers.{no_fluid}
 use Rattle.probe_calls.proofs.fluid_number.Goals as goal
 

@@ -1,6 +1,5 @@
 -- `own_top` meets its contract: it is one of the single numbers of the entry of the fluid that is named. Assumes nothing.
 use mathlib.Core.Path.{refl, ap}
-use borrow.Author.Rules.{rules}
 use Rattle.refusals.specs.declared.Refusal.{Refusal}
 use Rattle.fluids.specs.declared.Constants.{Constants}
 use Rattle.fluids.specs.declared.Fluid.{Fluid}

@@ -1,6 +1,5 @@
 -- `plain_answer` meets its contract: the search ends by what the number names, and so does the top. Assumes nothing.
 use mathlib.Core.Path.{refl}
-use borrow.Author.Rules.{rules}
 use Rattle.refusals.specs.declared.Answer.{Answer}
 use Rattle.outcomes.specs.Codes.{found_answer_of}
 use Rattle.probe_calls.proofs.Numbers.{at_own_top}

@@ -1,7 +1,6 @@
 -- `asked_word` meets its contract: the fluid's number names what the call's hundreds name, and the numbers are those of the bits. Assumes
 -- nothing.
 use mathlib.Core.Path.{◌∙◌}
-use borrow.Author.Rules.{rules}
 use Rattle.probe_calls.proofs.Numbers.{asked_at}
 use Rattle.probe_words.specs.Reply.{plain_word}
 use Rattle.probe_words.proofs.asked_word.Goals as goal

@@ -1,6 +1,5 @@
 -- `number_reply` meets its contract, by the answer's two forms. Assumes nothing.
 use mathlib.Core.Path.{◌∙◌, sym, ap}
-use borrow.Author.Rules.{rules}
 use Rattle.probe_words.specs.declared.Reply.TheVariants.{Holds}
 use Rattle.probe_words.specs.Reply.{number_reply}
 use Rattle.probe_words.proofs.number_reply.Goals as goal

@@ -1,6 +1,5 @@
 -- `plain_word` meets its contract: the search ends by what the number names, and so does the top. Assumes nothing.
 use mathlib.Core.Path.{refl}
-use borrow.Author.Rules.{rules}
 use Rattle.probe_words.specs.declared.Reply.{Reply}
 use Rattle.probe_words.specs.Reply.{word_reply, plain_word}
 use Rattle.probe_calls.proofs.Numbers.{at_own_top}

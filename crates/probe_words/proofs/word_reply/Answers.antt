@@ -1,6 +1,5 @@
 -- `word_reply` meets its contract, by the outcome's two forms. Assumes nothing.
 use mathlib.Core.Path.{◌∙◌, sym, ap}
-use borrow.Author.Rules.{rules}
 use Rattle.probe_words.specs.declared.Reply.TheVariants.{Holds}
 use Rattle.probe_words.specs.Reply.{word_reply}
 use Rattle.probe_words.proofs.word_reply.Goals as goal

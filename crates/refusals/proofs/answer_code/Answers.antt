@@ -1,6 +1,5 @@
 -- `answer_code` meets its contract: 0 of a number, and the number of a refusal. Assumes nothing.
 use mathlib.Core.Path.{refl, sym, ◌∙◌, ap}
-use borrow.Author.Rules.{rules}
 use Rattle.refusals.specs.Code.{answer_code_of}
 use Rattle.refusals.proofs.answer_code.Goals as goal
 

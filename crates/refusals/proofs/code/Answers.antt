@@ -1,6 +1,5 @@
 -- `code` meets its contract, refusal by refusal. Assumes nothing.
 use mathlib.Core.Path.{refl}
-use borrow.Author.Rules.{rules}
 use Rattle.refusals.proofs.code.Goals as goal
 
 pub returns-in-NoReading : goal.returns-in-NoReading

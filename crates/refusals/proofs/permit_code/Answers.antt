@@ -1,6 +1,5 @@
 -- `permit_code` meets its contract: 0 where it is granted, and the number of the refusal where it is denied. Assumes nothing.
 use mathlib.Core.Path.{refl, sym, ◌∙◌, ap}
-use borrow.Author.Rules.{rules}
 use Rattle.refusals.specs.Code.{permit_code_of}
 use Rattle.refusals.proofs.permit_code.Goals as goal
 

@@ -1,6 +1,5 @@
 -- `tested` meets its contract: by what was permitted before, and then by the test. Assumes nothing.
 use mathlib.Core.Path.{sym}
-use borrow.Author.Rules.{rules}
 use Rattle.refusals.proofs.tested.Goals as goal
 
 pub returns-then-passed : goal.returns-then-passed

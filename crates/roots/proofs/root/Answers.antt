@@ -1,7 +1,5 @@
 -- `root` meets its contract: its two tests are those of `within`, and in range x is finite. Assumes nothing.
 use mathlib.Core.Path.{sym, ◌∙◌}
-use borrow.Author.Rules.{rules}
-use Rattle.arithmetic.specs.Checked.{squash}
 use Rattle.roots.specs.Root.{root_of}
 use Rattle.arithmetic.proofs.Operations.{squash_finite}
 use Rattle.arithmetic.proofs.Within.{within_in, within_low, within_high, finite_within}

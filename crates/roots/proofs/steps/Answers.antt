@@ -4,7 +4,7 @@ use mathlib.Core.Path.{◌≡◌, refl, sym, ◌∙◌}
 use mathlib.Core.Bool.{Bool}
 use native.Mathlib.Omega.{arith}
 use lib.Ieee.{Float, nan, inf, fin, binary64, add, div}
-use Rattle.arithmetic.specs.Checked.{squash, real, ◌⊕◌, ◌⊘◌}
+use Rattle.arithmetic.specs.Checked.{squash, ◌⊕◌, ◌⊘◌}
 use Rattle.roots.specs.Root.{root_steps}
 use Rattle.arithmetic.proofs.Operations.{nan_⊕, squash_add, squash_div, squash_over}
 use Rattle.roots.proofs.Turns.{root_turn}

@@ -1,15 +1,8 @@
 -- `steps` meets its contract. The loop's invariant: the steps that are left, from the present y, end where all sixteen do from
 -- 256. The measure is n. Assumes nothing.
-use mathlib.Core.Path.{◌≡◌, refl, sym, ◌∙◌}
-use mathlib.Core.Bool.{Bool}
-use native.Mathlib.Omega.{arith}
-use lib.Ieee.{Float, nan, inf, fin, binary64, add, div}
-use Rattle.arithmetic.specs.Checked.{squash, real, ◌⊕◌, ◌⊘◌}
+use mathlib.Core.Path.{◌≡◌}
+use Rattle.arithmetic.specs.Checked.{squash, real}
 use Rattle.roots.specs.Root.{root_steps}
-use Rattle.arithmetic.proofs.Operations.{nan_⊕, squash_add, squash_div, squash_over}
-use Rattle.roots.proofs.Turns.{root_turn}
-use Rattle.arithmetic.proofs.Literals.{lit_2}
-use Rattle.roots.proofs.Literals.{lit_256, squash_256}
 use Rattle.roots.proofs.steps.Given as goal
 
 abbrev pub invariant-loop-n : goal.invariant-loop-n

@@ -1,11 +1,8 @@
 -- `answer_each` meets its contract. The loop's invariant: the first k records are answered, each in its own bytes and its own place. The measure is
 -- how many are left. Assumes nothing.
-use mathlib.Core.Path.{◌≡◌}
-use Prim.Native.Nat.{◌-◌, ◌≤◌}
 use native.Mathlib.Omega.{arith}
 use borrow.Author.Rules.{rules}
-use Rattle.records.specs.Run.{record_count}
-use Rattle.runs.proofs.Progress.{Answered, none_yet, one_more, finished}
+use Rattle.runs.proofs.Progress.{none_yet, one_more, finished}
 use Rattle.runs.proofs.answer_each.Goals as goal
 
 pub loop-k-init : goal.loop-k-init

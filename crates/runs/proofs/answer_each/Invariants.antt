@@ -2,10 +2,8 @@
 -- how many are left. Assumes nothing.
 use mathlib.Core.Path.{◌≡◌}
 use Prim.Native.Nat.{◌-◌, ◌≤◌}
-use native.Mathlib.Omega.{arith}
-use borrow.Author.Rules.{rules}
 use Rattle.records.specs.Run.{record_count}
-use Rattle.runs.proofs.Progress.{Answered, none_yet, one_more, finished}
+use Rattle.runs.proofs.Progress.{Answered}
 use Rattle.runs.proofs.answer_each.Given as goal
 
 abbrev pub invariant-loop-k : goal.invariant-loop-k

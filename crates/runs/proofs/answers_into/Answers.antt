@@ -11,7 +11,6 @@ use Rattle.refusals.specs.Code.{code_of}
 use Rattle.refusals.proofs.InOrder.{all_passed}
 use Rattle.records.specs.Run.{record_count}
 use Rattle.runs.specs.Answers.{run_tests, permit_of, run_permit, RunFits, each_output, each_code, run_code, run_output, run_codes}
-use borrow.Author.Rules.{rules}
 use Rattle.runs.proofs.answers_into.Goals as goal
 
 module _ (s out codes : List ℕ) where

@@ -9,7 +9,6 @@ use Rattle.refusals.specs.declared.Refusal.TheVariants.{TooShort, TooManyRecords
 use Rattle.refusals.proofs.Tests.{by}
 use Rattle.refusals.proofs.InOrder.{one_test}
 use Rattle.runs.specs.Answers.{permit_of}
-use borrow.Author.Rules.{rules}
 use Rattle.runs.proofs.permit.Goals as goal
 
 by_eights : (n room : ℕ) → leb n (room / 8) ≡ leb (8 * n) room

@@ -1,6 +1,5 @@
 -- `answer_numbered` meets its contract: the call on the fluid that the number names, or 17. Assumes nothing.
 use mathlib.Core.Path.{refl}
-use borrow.Author.Rules.{rules}
 use Rattle.refusals.specs.declared.Answer.TheVariants.{Refused}
 use Rattle.inputs.proofs.Named.{known_fluid, unknown_fluid}
 use Rattle.saturation.proofs.answer_numbered.Goals as goal

@@ -3,7 +3,6 @@ use mathlib.Core.Path.{sym, ◌∙◌}
 use Rattle.refusals.proofs.Needed.{permitted_denied}
 use Rattle.arithmetic.proofs.Answered.{granted_answer}
 use Rattle.saturation.proofs.Granted.{saturation_finite}
-use borrow.Author.Rules.{rules}
 use Rattle.saturation.proofs.answer_of.Goals as goal
 
 pub value_of-requires : goal.value_of-requires

@@ -1,6 +1,5 @@
 -- `saturated_liquid` meets its contract: it is the call of its curve. Assumes nothing.
 use Rattle.saturation.specs.Calls.{saturated_liquid_of}
-use borrow.Author.Rules.{rules}
 use Rattle.saturation.proofs.saturated_liquid.Goals as goal
 
 pub returns : goal.returns

@@ -1,6 +1,5 @@
 -- `saturated_vapour` meets its contract: it is the call of its curve. Assumes nothing.
 use Rattle.saturation.specs.Calls.{saturated_vapour_of}
-use borrow.Author.Rules.{rules}
 use Rattle.saturation.proofs.saturated_vapour.Goals as goal
 
 pub returns : goal.returns

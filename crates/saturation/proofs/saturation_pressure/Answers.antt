@@ -1,6 +1,5 @@
 -- `saturation_pressure` meets its contract: it is the call of its curve. Assumes nothing.
 use Rattle.saturation.specs.Calls.{saturation_pressure_of}
-use borrow.Author.Rules.{rules}
 use Rattle.saturation.proofs.saturation_pressure.Goals as goal
 
 pub returns : goal.returns

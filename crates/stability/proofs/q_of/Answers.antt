@@ -1,6 +1,5 @@
 -- `q_of` meets its contract: squash goes through each operation. Assumes nothing.
 use mathlib.Core.Path.{◌≡◌, ◌∙◌}
-use borrow.Author.Rules.{rules}
 use lib.Ieee.{Float, binary64, of_bits, add, mul}
 use Rattle.arithmetic.specs.Checked.{real, squash, ◌⊕◌, ◌⊗◌}
 use Rattle.arithmetic.proofs.Operations.{squash_add, squash_mul, ⊕_left, ⊕_right, ⊗_left, ⊗_right}

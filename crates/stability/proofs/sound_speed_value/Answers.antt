@@ -1,6 +1,5 @@
 -- `sound_speed_value` meets its contract: squash goes through each operation, and the divisor that is worked is tested. Assumes nothing.
 use mathlib.Core.Path.{sym, ◌∙◌, ap}
-use borrow.Author.Rules.{rules}
 use Rattle.arithmetic.proofs.Operations.{squash_add, squash_sub, squash_mul, ⊕_left, ⊕_right, ⊖_left, ⊖_right, ⊗_left, ⊗_right, squash_over, ⊘_squashed}
 use Rattle.roots.proofs.Ranges.{root_squash}
 use Rattle.fluids.specs.declared.Constants.{Constants}

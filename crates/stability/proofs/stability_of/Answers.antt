@@ -1,6 +1,4 @@
 -- `stability_of` meets its contract: squash goes through each operation, and is what the parts are settled by. Assumes nothing.
-use mathlib.Core.Path.{◌∙◌, ap}
-use borrow.Author.Rules.{rules}
 use Rattle.arithmetic.proofs.Operations.{squash_add, squash_sub, ⊕_left, ⊕_right, ⊖_left, ⊖_right}
 use Rattle.arithmetic.proofs.Literals.{lit_1}
 use Rattle.stability.specs.Stability.{«V», K, stability_of}

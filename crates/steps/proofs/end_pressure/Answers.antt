@@ -1,7 +1,6 @@
 -- `end_pressure` meets its contract: an end is a step, and inside the most cells where j is at most so many. Assumes nothing.
 use mathlib.Core.Path.{◌∙◌}
 use native.Mathlib.Omega.{arith}
-use borrow.Author.Rules.{rules}
 use Rattle.arithmetic.proofs.Literals.{lit_nan}
 use Rattle.search.specs.Plain.{end_step}
 use Rattle.steps.proofs.Inside.{pressure_beyond}

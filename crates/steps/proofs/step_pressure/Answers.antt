@@ -1,7 +1,6 @@
 -- `step_pressure` meets its contract: the pressure at the step's density. Assumes nothing.
 use mathlib.Core.Path.{sym, ◌∙◌, ap}
 use native.Mathlib.Omega.{arith}
-use borrow.Author.Rules.{rules}
 use Rattle.arithmetic.proofs.Literals.{lit_nan}
 use Rattle.equation.specs.State.{pressure_at}
 use Rattle.steps.specs.Steps.{step_pressure_of}

@@ -1,6 +1,5 @@
 -- `all_finite` meets its contract, by its three tests. Assumes nothing.
 use mathlib.Core.Path.{sym, ◌∙◌}
-use borrow.Author.Rules.{rules}
 use Rattle.sums.proofs.all_finite.Goals as goal
 
 pub returns-then-both_finite-2 : goal.returns-then-both_finite-2

@@ -1,13 +1,11 @@
 -- `settled` meets its contract: six finite sums are squashed already, and others one by one. Assumes nothing.
 use mathlib.Core.Path.{◌≡◌, sym, ◌∙◌}
-use mathlib.Core.Bool.{Bool, true, ◌&&◌}
-use lib.Ieee.{Float}
+use mathlib.Core.Bool.{true, ◌&&◌}
 use lib.Ieee.Scale.{finite}
 use Rattle.refusals.proofs.Tests.{and_passed}
 use Rattle.arithmetic.proofs.Operations.{squash_finite}
 use Rattle.sums.specs.declared.Sums.{Sums}
 use Rattle.sums.specs.Squashed.{squash_sums, all_finite}
-use borrow.Author.Rules.{rules}
 use Rattle.sums.proofs.settled.Goals as goal
 
 -- six finite sums are squashed already

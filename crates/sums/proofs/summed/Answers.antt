@@ -1,24 +1,15 @@
 -- `summed` meets its contract. The loop's invariant: for all bells' parts that give these X, the sums are those over the first
 -- i rows. The measure is what is left of the table. Assumes nothing.
 use mathlib.Core.Path.{◌≡◌, sym, ◌∙◌, ap}
-use mathlib.Core.List.{List, map}
-use Prim.Native.Nat.{◌≤◌, ◌-◌}
 use native.Mathlib.Omega.{arith}
-use borrow.Author.Rules.{rules}
-use lib.Ieee.{Float}
-use Rattle.arithmetic.specs.Checked.{squash}
-use Rattle.arithmetic.specs.Lanes.{AtEach, lane}
 use Rattle.arithmetic.proofs.Literals.{lit_0, squash_0}
 use Rattle.fluids.proofs.Sound.{sound}
-use Rattle.fluids.specs.declared.Term.{Term}
 use Rattle.sums.specs.Rows.{x_at}
 use Rattle.sums.specs.Sums.{sums_to, sums_at}
-use Rattle.sums.specs.Squashed.{squash_sums}
 use Rattle.sums.specs.Factors.{x_of_row}
 use Rattle.fluids.proofs.Table.{read_row, read_row_finite}
 use Rattle.sums.proofs.Table.{x_over, sums_over_lem}
 use Rattle.sums.proofs.Turn.{this_row, sums_turn}
-use Rattle.sums.proofs.summed.Invariants.{XsFrom}
 use Rattle.sums.proofs.summed.Goals as goal
 
 pub loop-i-init : goal.loop-i-init

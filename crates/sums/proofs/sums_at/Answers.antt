@@ -1,6 +1,5 @@
 -- `sums_at` meets its contract: what was summed, settled. Assumes nothing.
 use mathlib.Core.Path.{◌∙◌}
-use borrow.Author.Rules.{rules}
 use Rattle.sums.proofs.sums_at.Goals as goal
 
 pub returns : goal.returns

@@ -1,6 +1,5 @@
 -- `enthalpy_value` meets its contract: squash goes through each operation. Assumes nothing.
 use mathlib.Core.Path.{◌∙◌, ap}
-use borrow.Author.Rules.{rules}
 use Rattle.arithmetic.proofs.Operations.{squash_add, squash_sub, squash_mul, ⊕_left, ⊕_right, ⊖_left, ⊖_right, ⊗_left, ⊗_right}
 use Rattle.arithmetic.proofs.Literals.{lit_1}
 use Rattle.fluids.specs.declared.Constants.{Constants}

@@ -1,7 +1,6 @@
 -- `bits` meets its contract: only a NaN differs from itself. Assumes nothing.
 use mathlib.Core.Path.{◌≡◌, sym, ap, ◌∙◌}
 use mathlib.Core.Bool.{true, false, not, true≢false}
-use borrow.Author.Rules.{rules}
 use lib.Dec.{T}
 use lib.Ieee.{Float, nan, inf, fin, binary64, is_nan, ne, to_bits}
 use lib.Ieee.Compare.{differs_from_itself, nan_differs}

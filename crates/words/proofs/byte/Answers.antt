@@ -1,7 +1,6 @@
 -- `byte` meets its contract: past the end `get_or` is its default. Assumes nothing.
 use mathlib.Core.Path.{sym}
 use native.Mathlib.Omega.{arith}
-use borrow.Author.Rules.{rules}
 use lib.ListN.{get_or-eq_default}
 use Rattle.words.proofs.byte.Goals as goal
 

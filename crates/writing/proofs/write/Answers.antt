@@ -2,7 +2,6 @@
 use mathlib.Core.Path.{◌≡◌, sym, ◌∙◌, ap}
 use mathlib.Core.List.{List}
 use Prim.Native.Nat.{ℕ}
-use borrow.Author.Rules.{rules}
 use Rattle.records.specs.declared.Kind.{Kind}
 use Rattle.records.specs.declared.Lettered.{Lettered}
 use Rattle.records.specs.Record.{kind_lettered}

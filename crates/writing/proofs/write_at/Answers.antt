@@ -5,9 +5,7 @@ use mathlib.Core.List.{List}
 use Prim.Native.Nat.{ℕ, ◌+◌, ◌≤◌}
 use native.Mathlib.Omega.{arith}
 use borrow.Author.Tests.{leb-true}
-use borrow.Author.Rules.{rules}
 use lib.Dec.{leb}
-use Rattle.writing.specs.Write.{Ended}
 use Rattle.writing.proofs.Placing.{with_room, without_room, record_placed}
 use Rattle.writing.proofs.write_at.Goals as goal
 

@@ -1,7 +1,6 @@
 -- `write_of` meets its contract: the call on the fluid that the number names, or 17 and the buffer as it was. Assumes nothing.
 use mathlib.Core.Path.{ap}
 use Prim.Native.Nat.{ℕ}
-use borrow.Author.Rules.{rules}
 use Rattle.fluids.specs.declared.Fluid.{Fluid}
 use Rattle.inputs.proofs.Named.{known_fluid, unknown_fluid}
 use Rattle.writing.specs.Write.{refused_with, written_at, written_of}

@@ -1,6 +1,5 @@
 -- `answer_from` meets its contract, by whether x is finite. Assumes nothing.
 use mathlib.Core.Path.{sym, ◌∙◌}
-use borrow.Author.Rules.{rules}
 use Rattle.arithmetic.proofs.Answered.{answer_from_finite, answer_from_not_finite}
 use Rattle.arithmetic.proofs.checked.answer_from.Goals as goal
 

@@ -1,6 +1,5 @@
 -- `over` meets its contract, by whether the divisor is finite. Assumes nothing.
 use mathlib.Core.Path.{sym, ◌∙◌, ap, subst}
-use borrow.Author.Rules.{rules}
 use lib.Dec.{T}
 use lib.Ieee.{Float}
 use Rattle.arithmetic.specs.Checked.{squash, ◌⊘◌}

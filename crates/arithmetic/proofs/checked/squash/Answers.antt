@@ -1,6 +1,5 @@
 -- `squash` meets its contract, by whether x is finite. Assumes nothing.
 use mathlib.Core.Path.{sym, ◌∙◌}
-use borrow.Author.Rules.{rules}
 use Rattle.arithmetic.proofs.Operations.{squash_finite, squash_not_finite}
 use Rattle.arithmetic.proofs.Literals.{lit_nan}
 use Rattle.arithmetic.proofs.checked.squash.Goals as goal

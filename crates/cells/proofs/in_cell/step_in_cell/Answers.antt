@@ -5,7 +5,6 @@ use native.Mathlib.Omega.{arith}
 use Rattle.search.specs.InCell.{in_cell}
 use Rattle.search.proofs.BracketKept.{cell_bracket}
 use Rattle.cells.proofs.Beyond.{beyond_the_cells}
-use borrow.Author.Rules.{rules}
 use Rattle.cells.proofs.in_cell.step_in_cell.Goals as goal
 
 pub returns-then-j-ge-MOST_CELLS : goal.returns-then-j-ge-MOST_CELLS

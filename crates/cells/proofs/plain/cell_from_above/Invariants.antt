@@ -1,14 +1,9 @@
 -- `cell_from_above` meets its contract. The invariant: what the visit of the ends under j gives is what the whole search gives; the
 -- measure is j. Assumes nothing.
-use mathlib.Core.Path.{◌≡◌, sym, ◌∙◌}
-use mathlib.Core.Bool.{true, false}
-use Prim.Native.Nat.{◌-◌, ◌≤◌}
-use native.Mathlib.Omega.{arith}
-use borrow.Author.Rules.{rules}
+use mathlib.Core.Path.{◌≡◌}
+use Prim.Native.Nat.{◌≤◌}
 use Rattle.search.specs.Plain.{at_ends, visit_down, cell_from_above}
-use Rattle.search.proofs.Turns.{down_turn, down_end}
 use Rattle.steps.specs.Steps.{pressure_in_steps}
-use Rattle.steps.proofs.Seen.{nan_seen, le_seen}
 use Rattle.cells.proofs.plain.cell_from_above.Given as goal
 
 abbrev pub invariant-loop-j : goal.invariant-loop-j

@@ -1,14 +1,9 @@
 -- `cell_from_below` meets its contract. The invariant: what the visit from end j on gives is what the whole visit gives; the measure is
 -- the ends left. Assumes nothing.
-use mathlib.Core.Path.{◌≡◌, sym, ◌∙◌}
-use mathlib.Core.Bool.{true, false}
+use mathlib.Core.Path.{◌≡◌}
 use Prim.Native.Nat.{◌-◌, ◌≤◌}
-use native.Mathlib.Omega.{arith}
-use borrow.Author.Rules.{rules}
 use Rattle.search.specs.Plain.{at_ends, visit_up, cell_from_below}
-use Rattle.search.proofs.Turns.{up_start, up_turn, up_end}
 use Rattle.steps.specs.Steps.{pressure_in_steps}
-use Rattle.steps.proofs.Seen.{nan_seen, lt_seen}
 use Rattle.cells.proofs.plain.cell_from_below.Given as goal
 
 abbrev pub invariant-loop-j : goal.invariant-loop-j

@@ -4,7 +4,6 @@ use Rattle.search.specs.Plain.{at_ends}
 use Rattle.search.specs.declared.Side.{Side}
 use Rattle.steps.specs.Steps.{pressure_in_steps}
 use Rattle.search.specs.BySide.{plain_cell_of}
-use borrow.Author.Rules.{rules}
 use Rattle.cells.proofs.plain.plain_cell.Goals as goal
 
 pub returns-in-FromBelow : goal.returns-in-FromBelow

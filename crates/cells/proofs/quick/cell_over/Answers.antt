@@ -3,7 +3,6 @@ use mathlib.Core.Path.{sym}
 use native.Mathlib.Omega.{arith}
 use Rattle.search.specs.Quick.{entries_of, quick_cell}
 use Rattle.search.proofs.Turns.{quick_turn, quick_without}
-use borrow.Author.Rules.{rules}
 use Rattle.cells.proofs.quick.cell_over.Goals as goal
 
 pub returns-then-list-c : goal.returns-then-list-c

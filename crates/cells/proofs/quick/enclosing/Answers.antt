@@ -6,7 +6,6 @@ use Rattle.search.specs.Quick.{enclosing}
 use Rattle.steps.proofs.Inside.{number_inside}
 use Rattle.steps.proofs.Seen.{nan_seen, le_seen, lt_seen}
 use native.Mathlib.Omega.{arith}
-use borrow.Author.Rules.{rules}
 use Rattle.cells.proofs.quick.enclosing.Goals as goal
 
 -- the pressure at a was a number, so a lies in the most cells

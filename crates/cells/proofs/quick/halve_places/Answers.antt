@@ -1,9 +1,7 @@
 -- `halve_places` meets its contract. The invariant: halving from a and b ends where halving from 0 and c does; the measure is b − a.
 -- Assumes nothing.
-use mathlib.Core.Path.{◌≡◌, refl, sym, ◌∙◌}
-use Prim.Native.Nat.{◌-◌, ◌≤◌}
+use mathlib.Core.Path.{refl, sym, ◌∙◌}
 use native.Mathlib.Omega.{arith}
-use Rattle.search.specs.Quick.{entries_of, above, halved_places}
 use Rattle.search.proofs.Turns.{places_down, places_up, places_end}
 use Rattle.cells.proofs.quick.halve_places.Goals as goal
 

@@ -1,10 +1,8 @@
 -- `halve_places` meets its contract. The invariant: halving from a and b ends where halving from 0 and c does; the measure is b − a.
 -- Assumes nothing.
-use mathlib.Core.Path.{◌≡◌, refl, sym, ◌∙◌}
+use mathlib.Core.Path.{◌≡◌}
 use Prim.Native.Nat.{◌-◌, ◌≤◌}
-use native.Mathlib.Omega.{arith}
 use Rattle.search.specs.Quick.{entries_of, above, halved_places}
-use Rattle.search.proofs.Turns.{places_down, places_up, places_end}
 use Rattle.cells.proofs.quick.halve_places.Given as goal
 
 abbrev pub invariant-loop-b : goal.invariant-loop-b

@@ -5,7 +5,6 @@ use Rattle.search.specs.Quick.{quick_cell}
 use Rattle.search.specs.declared.Side.{Side}
 use Rattle.steps.specs.Steps.{pressure_in_steps}
 use Rattle.search.specs.BySide.{entries_by}
-use borrow.Author.Rules.{rules}
 use Rattle.cells.proofs.quick.quick_cell.Goals as goal
 
 pub returns-in-FromBelow : goal.returns-in-FromBelow

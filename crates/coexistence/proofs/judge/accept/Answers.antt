@@ -1,6 +1,5 @@
 -- `accept` meets its contract: the call on the fluid that the number names, or 17. Assumes nothing.
 use mathlib.Core.Path.{refl}
-use borrow.Author.Rules.{rules}
 use Rattle.inputs.proofs.Named.{known_fluid, unknown_fluid}
 use Rattle.refusals.specs.declared.Permit.TheVariants.{Denied}
 use Rattle.coexistence.proofs.judge.accept.Goals as goal

@@ -1,10 +1,7 @@
 -- `accept_of` meets its contract: the inputs and the order, and then the verdict. Assumes nothing.
-use mathlib.Core.Path.{◌≡◌, sym, ◌∙◌, ap}
-use mathlib.Core.List.{[], ◌∷◌, ◌++◌}
-use borrow.Author.Rules.{rules}
+use mathlib.Core.Path.{sym, ◌∙◌, ap}
 use Rattle.refusals.specs.declared.Refusal.TheVariants as refuses
 use Rattle.refusals.specs.declared.Permit.{Permit}
-use Rattle.refusals.specs.Order.{first_of}
 use Rattle.refusals.proofs.Needed.{also}
 use Rattle.refusals.proofs.InOrder.{one_test}
 use Rattle.inputs.specs.Inputs.{pair_tests, pair_permit}

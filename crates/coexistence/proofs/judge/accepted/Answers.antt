@@ -1,5 +1,4 @@
 -- `accepted` meets its contract: the order of the densities, and then what is asked of the phases. Assumes nothing.
-use borrow.Author.Rules.{rules}
 use Rattle.refusals.proofs.Tests.{then_second, not_first}
 use Rattle.coexistence.proofs.judge.accepted.Goals as goal
 

@@ -1,5 +1,4 @@
 -- `all_finite` meets its contract: both phases, and then the differences. Assumes nothing.
-use borrow.Author.Rules.{rules}
 use Rattle.refusals.proofs.Tests.{then_second, not_first}
 use Rattle.coexistence.specs.Judge.{all_finite}
 use Rattle.coexistence.proofs.judge.all_finite.Goals as goal

@@ -1,7 +1,6 @@
 -- `both_near` meets its contract: the code's bounds are the definition's, each computed. Assumes nothing.
 use mathlib.Core.Path.{◌≡◌, refl, ◌∙◌}
 use mathlib.Core.Bool.{Bool}
-use borrow.Author.Rules.{rules}
 use lib.Ieee.{Float, of_bits, neg, round}
 use Rattle.refusals.proofs.Tests.{then_second, not_first}
 use Rattle.arithmetic.specs.Checked.{minus, between}

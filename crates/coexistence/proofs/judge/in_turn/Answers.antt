@@ -1,7 +1,6 @@
 -- `in_turn` meets its contract: above 0, and then as the other two comparisons have it. Assumes nothing.
 use mathlib.Core.Path.{ap}
 use lib.Ieee.{Float, lt}
-use borrow.Author.Rules.{rules}
 use Rattle.refusals.proofs.Tests.{then_second, not_first}
 use Rattle.arithmetic.proofs.Literals.{lit_0}
 use Rattle.coexistence.proofs.judge.in_turn.Goals as goal

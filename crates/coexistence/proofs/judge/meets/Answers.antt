@@ -1,5 +1,4 @@
 -- `meets` meets its contract: Q at both, and then the differences. Assumes nothing.
-use borrow.Author.Rules.{rules}
 use Rattle.refusals.proofs.Tests.{then_second, not_first}
 use Rattle.coexistence.specs.Judge.{meets}
 use Rattle.coexistence.proofs.judge.meets.Goals as goal

@@ -2,7 +2,6 @@
 use mathlib.Core.Path.{ap, ◌∙◌}
 use mathlib.Core.Bool.{◌&&◌}
 use lib.Ieee.{lt}
-use borrow.Author.Rules.{rules}
 use Rattle.refusals.proofs.Tests.{then_second, not_first}
 use Rattle.arithmetic.specs.Checked.{real}
 use Rattle.fluids.specs.declared.Constants.{Constants}

@@ -1,5 +1,4 @@
 -- `phase_finite` meets its contract: the pressure, and then the other two numbers. Assumes nothing.
-use borrow.Author.Rules.{rules}
 use Rattle.refusals.proofs.Tests.{then_second, not_first}
 use Rattle.coexistence.proofs.judge.phase_finite.Goals as goal
 

@@ -1,5 +1,4 @@
 -- `phases_finite` meets its contract: the liquid, and then the vapour. Assumes nothing.
-use borrow.Author.Rules.{rules}
 use Rattle.refusals.proofs.Tests.{then_second, not_first}
 use Rattle.coexistence.proofs.judge.phases_finite.Goals as goal
 

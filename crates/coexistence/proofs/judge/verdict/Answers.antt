@@ -1,12 +1,9 @@
 -- `verdict` meets its contract: its two tests, one after the other, of the phases at the kept temperature. Assumes nothing.
 use mathlib.Core.Path.{refl, ◌∙◌, ap}
 use mathlib.Core.List.{[], ◌∷◌}
-use borrow.Author.Rules.{rules}
-use lib.Ieee.{Float}
 use Rattle.refusals.specs.declared.Refusal.TheVariants as refuses
 use Rattle.refusals.proofs.InOrder.{one_test}
 use Rattle.kept.specs.declared.Kept.{Kept}
-use Rattle.coexistence.specs.declared.phase.Compared.{Compared}
 use Rattle.coexistence.specs.Phase.{compared_by, compared_at}
 use Rattle.coexistence.specs.Judge as Judge
 use Rattle.coexistence.proofs.judge.verdict.Goals as goal

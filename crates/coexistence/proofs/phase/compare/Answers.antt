@@ -1,6 +1,4 @@
 -- `compare` meets its contract: each difference is one checked subtraction. Assumes nothing.
-use mathlib.Core.Path.{◌≡◌, ap, ◌∙◌}
-use borrow.Author.Rules.{rules}
 use Rattle.arithmetic.specs.Checked.{◌⊖◌}
 use Rattle.coexistence.specs.Phase.{compared_by}
 use Rattle.coexistence.proofs.phase.compare.Goals as goal

@@ -1,11 +1,4 @@
 -- `phase_at` meets its contract: each number is that of the one state. Assumes nothing.
-use mathlib.Core.Path.{◌≡◌, ap, ◌∙◌}
-use borrow.Author.Rules.{rules}
-use lib.Ieee.{Float}
-use Rattle.equation.specs.declared.state.State.{State}
-use Rattle.equation.specs.State.{pressure_value}
-use Rattle.stability.specs.Stability.{Q}
-use Rattle.values.specs.Values.{gibbs_over_RT}
 use Rattle.coexistence.specs.Phase.{phase_of}
 use Rattle.coexistence.proofs.phase.phase_at.Goals as goal
 

@@ -1,9 +1,6 @@
 -- `first_accepted` meets its contract: the invariant is that the pairs left, from the one at hand on, give what all give; the measure is how many are left. Assumes nothing.
-use mathlib.Core.Path.{◌≡◌, refl, sym, ◌∙◌}
-use borrow.Author.Rules.{rules}
-use native.Mathlib.Omega.{arith}
+use mathlib.Core.Path.{◌≡◌}
 use Rattle.coexistence.specs.Proposer.{pair, pairs_from, pairs_after, first_accepted}
-use Rattle.coexistence.proofs.Sequence.{turn_accepted, turn_goes_on, turn_ends, none_left, all_left}
 use Rattle.coexistence.proofs.proposer.first_accepted.Given as goal
 
 abbrev pub invariant-loop-left : goal.invariant-loop-left

@@ -1,14 +1,10 @@
 -- `handed_on` meets its contract: two words are put, one after the other, and a refusal touches nothing. Assumes nothing.
-use mathlib.Core.Path.{◌≡◌, sym, ◌∙◌, ap}
-use mathlib.Core.List.{List, ◌++◌}
+use mathlib.Core.Path.{sym, ◌∙◌, ap}
+use mathlib.Core.List.{List}
 use Prim.Native.Nat.{ℕ}
-use borrow.Author.Rules.{rules}
-use lib.Ieee.{binary64, to_bits}
-use lib.ListN.{drop}
-use Rattle.words.specs.Word.{bytes_of}
 use Rattle.words.proofs.Written.{two_words}
 use Rattle.coexistence.specs.declared.Paired.{Paired}
-use Rattle.coexistence.specs.Call.{Ended, handed_on}
+use Rattle.coexistence.specs.Call.{handed_on}
 use Rattle.coexistence.proofs.proposer.handed_on.Goals as goal
 
 pub returns-in-Pair : goal.returns-in-Pair

@@ -1,7 +1,6 @@
 -- `judge_next` meets its contract: by the inputs, by whether the numbers are finite, and by whether the pair is accepted. Assumes nothing.
 use mathlib.Core.Path.{◌≡◌, sym, ◌∙◌, ap}
 use mathlib.Core.Bool.{◌&&◌, Bool}
-use borrow.Author.Rules.{rules}
 use lib.Ieee.{Float}
 use Rattle.fluids.specs.declared.Fluid.{Fluid}
 use Rattle.kept.specs.declared.Kept.{Kept}

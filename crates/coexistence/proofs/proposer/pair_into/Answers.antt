@@ -1,8 +1,6 @@
 -- `pair_into` meets its contract: what is denied touches nothing, and what is granted hands on the pair. Assumes nothing.
-use mathlib.Core.Path.{◌≡◌, sym, ◌∙◌, ap}
-use mathlib.Core.List.{List}
+use mathlib.Core.Path.{sym, ◌∙◌, ap}
 use Prim.Native.Nat.{ℕ}
-use borrow.Author.Rules.{rules}
 use borrow.Author.Tests.{leb-true}
 use Rattle.refusals.specs.declared.Permit.{Permit}
 use Rattle.inputs.proofs.Passed.{output_passed}

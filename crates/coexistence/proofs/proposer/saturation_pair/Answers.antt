@@ -1,6 +1,5 @@
 -- `saturation_pair` meets its contract: the call on the fluid that the number names, or 17. Assumes nothing.
 use mathlib.Core.Path.{refl}
-use borrow.Author.Rules.{rules}
 use Rattle.inputs.proofs.Named.{known_fluid, unknown_fluid}
 use Rattle.coexistence.specs.declared.Paired.TheVariants.{Refused}
 use Rattle.coexistence.proofs.proposer.saturation_pair.Goals as goal

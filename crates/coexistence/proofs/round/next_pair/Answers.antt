@@ -1,6 +1,4 @@
 -- `next_pair` meets its contract: squash goes through each operation. Assumes nothing.
-use mathlib.Core.Path.{◌≡◌, ap, ◌∙◌}
-use borrow.Author.Rules.{rules}
 use Rattle.arithmetic.proofs.Operations.{squash_add, squash_sub, squash_over, ⊕_left, ⊖_left, ⊖_right, ⊘_left}
 use Rattle.coexistence.specs.Round.{next_by}
 use Rattle.coexistence.proofs.round.next_pair.Goals as goal

@@ -1,8 +1,5 @@
 -- `pressure_step` meets its contract: squash goes through each operation, and the divisor, which is worked, is tested. Assumes nothing.
-use mathlib.Core.Path.{◌≡◌, sym, ◌∙◌, ap}
-use borrow.Author.Rules.{rules}
-use lib.Ieee.{Float}
-use Rattle.arithmetic.specs.Checked.{squash, ◌⊘◌}
+use mathlib.Core.Path.{◌∙◌, ap}
 use Rattle.arithmetic.proofs.Operations.{squash_mul, ⊗_left, ⊗_right, ⊘_left}
 use Rattle.arithmetic.proofs.Literals.{lit_1000}
 use Rattle.fluids.specs.declared.Constants.{Constants}

@@ -1,6 +1,5 @@
 -- `vapour_step` meets its contract: squash goes through each operation, and the divisor, which is worked, is tested. Assumes nothing.
 use mathlib.Core.Path.{◌≡◌, ◌∙◌, ap}
-use borrow.Author.Rules.{rules}
 use lib.Ieee.{Float, binary64, of_bits, sub, div}
 use Rattle.arithmetic.specs.Checked.{real, squash, ◌⊖◌, ◌⊘◌}
 use Rattle.arithmetic.proofs.Operations.{squash_sub, squash_over, ⊖_right, ⊘_left}

@@ -4,7 +4,6 @@ use Rattle.search.specs.InCell.{in_cell}
 use Rattle.density.proofs.Permitted.{question, kept_of_lem}
 use Rattle.density.proofs.Guarded.{plain_inside, plain_guarded}
 use Rattle.density.proofs.Outcomes.{plain_refused_lem, plain_answered}
-use borrow.Author.Rules.{rules}
 use Rattle.density.proofs.calls.plain_of.Goals as goal
 
 pub found_state-requires : goal.found_state-requires

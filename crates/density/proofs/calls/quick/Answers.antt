@@ -1,6 +1,5 @@
 -- `quick` meets its contract: the call on the fluid that the number names, or 17. Assumes nothing.
 use mathlib.Core.Path.{refl}
-use borrow.Author.Rules.{rules}
 use Rattle.search.specs.declared.Found.{Found}
 use Rattle.inputs.proofs.Named.{known_fluid, unknown_fluid}
 use Rattle.density.proofs.calls.quick.Goals as goal

@@ -6,7 +6,6 @@ use Rattle.density.proofs.Permitted.{question, kept_of_lem}
 use Rattle.density.proofs.Guarded.{quick_inside, quick_guarded}
 use Rattle.density.proofs.Outcomes.{quick_refused_lem, quick_answered}
 use Rattle.inputs.proofs.Passed.{inputs_with_room}
-use borrow.Author.Rules.{rules}
 use Rattle.density.proofs.calls.quick_of.Goals as goal
 
 pub found_state-requires : goal.found_state-requires

@@ -1,7 +1,6 @@
 -- `found_state` meets its contract, by whether a step was found. Assumes nothing.
 use Rattle.density.proofs.Outcomes.{inside_at, found_answered, found_refused}
 use Rattle.steps.proofs.Inside.{at_step}
-use borrow.Author.Rules.{rules}
 use Rattle.density.proofs.state.found_state.Goals as goal
 
 pub returns-in-At : goal.returns-in-At

@@ -2,7 +2,6 @@
 use mathlib.Core.Path.{refl}
 use mathlib.Core.Bool.{true, false}
 use Rattle.density.proofs.Outcomes.{word_by_tests}
-use borrow.Author.Rules.{rules}
 use Rattle.density.proofs.state.state_word.Goals as goal
 
 pub returns-then-t-critical : goal.returns-then-t-critical

@@ -1,6 +1,5 @@
 -- `called` meets its contract, by whether x is finite. Assumes nothing.
 use mathlib.Core.Path.{sym, ◌∙◌}
-use borrow.Author.Rules.{rules}
 use Rattle.refusals.proofs.Needed.{need_passed, need_failed}
 use Rattle.elementary.proofs.calls.called.Goals as goal
 

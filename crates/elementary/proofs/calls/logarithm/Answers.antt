@@ -1,6 +1,5 @@
 -- `logarithm` meets its contract: what `called` ensures, at what `ln` ensures. Assumes nothing.
 use mathlib.Core.Path.{◌∙◌, ap}
-use borrow.Author.Rules.{rules}
 use Rattle.elementary.specs.Calls.{called_of}
 use Rattle.elementary.proofs.calls.logarithm.Goals as goal
 

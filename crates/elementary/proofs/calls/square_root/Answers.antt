@@ -1,6 +1,5 @@
 -- `square_root` meets its contract: what `called` ensures, at what `root` ensures. Assumes nothing.
 use mathlib.Core.Path.{◌∙◌, ap}
-use borrow.Author.Rules.{rules}
 use Rattle.elementary.specs.Calls.{called_of}
 use Rattle.elementary.proofs.calls.square_root.Goals as goal
 

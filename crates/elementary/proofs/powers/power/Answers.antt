@@ -1,6 +1,5 @@
 -- `power` meets its contract: its test is that of `power_of`, and the product is the checked one. Assumes nothing.
 use mathlib.Core.Path.{sym, ◌∙◌, ap}
-use borrow.Author.Rules.{rules}
 use lib.Ieee.{Float}
 use Rattle.arithmetic.specs.Checked.{◌⊗◌}
 use Rattle.exponentials.specs.Exp.{exp_of}

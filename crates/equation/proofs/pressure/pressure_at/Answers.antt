@@ -1,6 +1,5 @@
 -- `pressure_at` meets its contract: the gas constant is the entry's, and S1 that of δ by the entry's critical density. Assumes nothing.
 use mathlib.Core.Path.{◌∙◌, ap}
-use borrow.Author.Rules.{rules}
 use Rattle.fluids.specs.declared.Constants.{Constants}
 use Rattle.fluids.specs.Entries.{entry_of}
 use Rattle.sums.specs.declared.Sums.{Sums}

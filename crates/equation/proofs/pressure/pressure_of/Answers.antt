@@ -1,6 +1,5 @@
 -- `pressure_of` meets its contract: the gas constant is the entry's. Assumes nothing.
 use mathlib.Core.Path.{◌≡◌, ◌∙◌, ap}
-use borrow.Author.Rules.{rules}
 use Rattle.fluids.specs.declared.Constants.{Constants}
 use Rattle.equation.specs.State.{pressure_by, pressure_value}
 use Rattle.equation.proofs.pressure.pressure_of.Goals as goal

@@ -1,6 +1,5 @@
 -- `state_at` meets its contract: δ by the entry's critical density, and the sums there. Assumes nothing.
 use mathlib.Core.Path.{◌∙◌, ap}
-use borrow.Author.Rules.{rules}
 use lib.Ieee.{binary64, div}
 use Rattle.arithmetic.specs.Checked.{squash, ◌⊘◌}
 use Rattle.fluids.specs.declared.Constants.{Constants}

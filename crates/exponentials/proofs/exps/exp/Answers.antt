@@ -1,6 +1,5 @@
 -- `exp` meets its contract: its three parts are those of the definition. Assumes nothing.
 use mathlib.Core.Path.{◌∙◌}
-use borrow.Author.Rules.{rules}
 use Rattle.exponentials.proofs.ExpWorked.{exp_worked}
 use Rattle.exponentials.proofs.exps.exp.Goals as goal
 

@@ -1,6 +1,5 @@
 -- `finished` meets its contract: squashed, the ten squares are those of the definition. Assumes nothing.
 use mathlib.Core.Path.{◌∙◌}
-use borrow.Author.Rules.{rules}
 use Rattle.exponentials.proofs.exps.finished.Goals as goal
 
 pub returns : goal.returns

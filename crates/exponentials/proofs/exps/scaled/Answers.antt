@@ -1,5 +1,4 @@
 -- `scaled` meets its contract: squash goes through the product. Assumes nothing.
-use borrow.Author.Rules.{rules}
 use Rattle.arithmetic.proofs.Operations.{squash_mul}
 use Rattle.exponentials.proofs.Literals.{lit_two⁻10, squash_two⁻10}
 use Rattle.exponentials.proofs.exps.scaled.Goals as goal

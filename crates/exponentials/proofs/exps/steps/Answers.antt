@@ -3,8 +3,7 @@
 use mathlib.Core.Path.{◌≡◌, sym, ◌∙◌, ap}
 use Prim.Native.Nat.{◌-◌}
 use native.Mathlib.Omega.{arith}
-use borrow.Author.Rules.{rules}
-use Rattle.arithmetic.specs.Checked.{squash, real}
+use Rattle.arithmetic.specs.Checked.{squash}
 use Rattle.exponentials.specs.Exp.{exp_steps}
 use Rattle.exponentials.proofs.ExpTurn.{exp_turn}
 use Rattle.arithmetic.proofs.Literals.{lit_1, squash_1}

@@ -1,13 +1,8 @@
 -- `steps` meets its contract. The loop's invariant: the steps that are left, from the present H, end where all sixteen do from
 -- 1. The measure is n. Assumes nothing.
-use mathlib.Core.Path.{◌≡◌, sym, ◌∙◌, ap}
-use Prim.Native.Nat.{◌-◌}
-use native.Mathlib.Omega.{arith}
-use borrow.Author.Rules.{rules}
+use mathlib.Core.Path.{◌≡◌}
 use Rattle.arithmetic.specs.Checked.{squash, real}
 use Rattle.exponentials.specs.Exp.{exp_steps}
-use Rattle.exponentials.proofs.ExpTurn.{exp_turn}
-use Rattle.arithmetic.proofs.Literals.{lit_1, squash_1}
 use Rattle.exponentials.proofs.exps.steps.Given as goal
 
 abbrev pub invariant-loop-n : goal.invariant-loop-n

@@ -1,14 +1,12 @@
 -- `all_finished` meets its contract: each place is worked by itself. The measure is what is left of the places. Assumes nothing.
-use mathlib.Core.Path.{◌≡◌, refl}
+use mathlib.Core.Path.{◌≡◌}
 use mathlib.Core.List.{List}
 use Prim.Native.Nat.{ℕ, ◌≤◌, ◌-◌}
-use native.Mathlib.Omega.{arith}
-use borrow.Author.Rules.{rules}
 use lib.Ieee.{Float}
 use Rattle.arithmetic.specs.Checked.{squash}
 use Rattle.exponentials.specs.Exp.{squared}
 use Rattle.arithmetic.specs.Lanes.{lane}
-use Rattle.arithmetic.proofs.Places.{Worked, none_worked, one_worked, all_worked}
+use Rattle.arithmetic.proofs.Places.{Worked}
 use Rattle.exponentials.proofs.lanes.all_finished.Given as goal
 
 abbrev pub Done : List Float → ℕ → Float → Type 0

@@ -1,14 +1,7 @@
 -- `all_scaled` meets its contract: each place is worked by itself. The measure is what is left of the places. Assumes nothing.
-use mathlib.Core.Path.{◌≡◌, refl}
-use mathlib.Core.List.{List}
-use Prim.Native.Nat.{ℕ, ◌≤◌, ◌-◌}
+use mathlib.Core.Path.{refl}
 use native.Mathlib.Omega.{arith}
-use borrow.Author.Rules.{rules}
-use lib.Ieee.{Float}
-use Rattle.arithmetic.specs.Checked.{squash, real, two⁻, within, minus, ◌⊗◌}
-use Rattle.arithmetic.specs.Lanes.{lane}
-use Rattle.arithmetic.proofs.Places.{Worked, none_worked, one_worked, all_worked}
-use Rattle.exponentials.proofs.lanes.all_scaled.Invariants.{Done}
+use Rattle.arithmetic.proofs.Places.{none_worked, one_worked, all_worked}
 use Rattle.exponentials.proofs.lanes.all_scaled.Goals as goal
 
 pub loop-i-init : goal.loop-i-init

@@ -2,19 +2,16 @@
 -- where all sixteen do from 1; the inner one's: behind the present place they are one step further. The measures are n and the
 -- places that are left. Assumes nothing.
 use mathlib.Core.Path.{◌≡◌, refl, sym, ◌∙◌, ap}
-use mathlib.Core.List.{List}
-use Prim.Native.Nat.{ℕ, ◌≤◌, ◌-◌}
+use Prim.Native.Nat.{◌-◌}
 use native.Mathlib.Omega.{arith}
-use borrow.Author.Rules.{rules}
-use lib.ListN.{length, get_or-replicate}
+use lib.ListN.{get_or-replicate}
 use lib.Ieee.{Float, nan}
-use Rattle.arithmetic.specs.Checked.{squash, real}
+use Rattle.arithmetic.specs.Checked.{squash}
 use Rattle.exponentials.specs.Exp.{exp_steps}
-use Rattle.arithmetic.specs.Lanes.{AtEach, lane}
+use Rattle.arithmetic.specs.Lanes.{lane}
 use Rattle.arithmetic.proofs.Literals.{lit_1, squash_1}
 use Rattle.exponentials.proofs.ExpTurn.{exp_turn}
-use Rattle.arithmetic.proofs.Places.{Worked, none_worked, one_worked, all_worked}
-use Rattle.exponentials.proofs.lanes.all_steps.Invariants.{Left}
+use Rattle.arithmetic.proofs.Places.{none_worked, one_worked, all_worked}
 use Rattle.exponentials.proofs.lanes.all_steps.Goals as goal
 
 pub loop-n-init : goal.loop-n-init

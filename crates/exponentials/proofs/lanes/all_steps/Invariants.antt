@@ -1,19 +1,15 @@
 -- `all_steps` meets its contract. The outer loop's invariant: at each place the steps that are left, from the present H, end
 -- where all sixteen do from 1; the inner one's: behind the present place they are one step further. The measures are n and the
 -- places that are left. Assumes nothing.
-use mathlib.Core.Path.{◌≡◌, refl, sym, ◌∙◌, ap}
+use mathlib.Core.Path.{◌≡◌}
 use mathlib.Core.List.{List}
 use Prim.Native.Nat.{ℕ, ◌≤◌, ◌-◌}
-use native.Mathlib.Omega.{arith}
-use borrow.Author.Rules.{rules}
-use lib.ListN.{length, get_or-replicate}
-use lib.Ieee.{Float, nan}
+use lib.ListN.{length}
+use lib.Ieee.{Float}
 use Rattle.arithmetic.specs.Checked.{squash, real}
 use Rattle.exponentials.specs.Exp.{exp_steps}
 use Rattle.arithmetic.specs.Lanes.{AtEach, lane}
-use Rattle.arithmetic.proofs.Literals.{lit_1, squash_1}
-use Rattle.exponentials.proofs.ExpTurn.{exp_turn}
-use Rattle.arithmetic.proofs.Places.{Worked, none_worked, one_worked, all_worked}
+use Rattle.arithmetic.proofs.Places.{Worked}
 use Rattle.exponentials.proofs.lanes.all_steps.Given as goal
 
 -- from v, the n steps that are left end where all sixteen do

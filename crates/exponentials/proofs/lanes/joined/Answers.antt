@@ -2,12 +2,12 @@
 -- left. Assumes nothing.
 use mathlib.Core.Path.{◌≡◌, sym, ◌∙◌, ap}
 use mathlib.Core.List.{List, ◌++◌}
-use Prim.Native.Nat.{◌+◌, ◌≤◌, ◌<◌, ◌-◌}
+use Prim.Native.Nat.{◌<◌}
 use native.Mathlib.Omega.{arith}
 use borrow.Author.Rules.{rules}
 use lib.ListN.{length, take}
 use lib.Ieee.{Float, nan}
-use Rattle.exponentials.proofs.Filled.{Filled, none_filled, one_filled, all_filled}
+use Rattle.exponentials.proofs.Filled.{none_filled, one_filled, all_filled}
 use Rattle.exponentials.proofs.Halves.{lower, upper_at, whole_length, filled_size, half_length, second_begun, first_filled}
 use Rattle.exponentials.proofs.lanes.joined.Goals as goal
 

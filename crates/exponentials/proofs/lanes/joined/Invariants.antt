@@ -1,14 +1,9 @@
 -- `joined` meets its contract: the first loop fills the first half, the second the other. The measures are the places that are
 -- left. Assumes nothing.
-use mathlib.Core.Path.{◌≡◌, sym, ◌∙◌, ap}
-use mathlib.Core.List.{List, ◌++◌}
-use Prim.Native.Nat.{◌+◌, ◌≤◌, ◌<◌, ◌-◌}
-use native.Mathlib.Omega.{arith}
-use borrow.Author.Rules.{rules}
-use lib.ListN.{length, take}
-use lib.Ieee.{Float, nan}
-use Rattle.exponentials.proofs.Filled.{Filled, none_filled, one_filled, all_filled}
-use Rattle.exponentials.proofs.Halves.{lower, upper_at, whole_length, filled_size, half_length, second_begun, first_filled}
+use mathlib.Core.List.{◌++◌}
+use Prim.Native.Nat.{◌≤◌, ◌-◌}
+use lib.ListN.{take}
+use Rattle.exponentials.proofs.Filled.{Filled}
 use Rattle.exponentials.proofs.lanes.joined.Given as goal
 
 abbrev pub invariant-loop-i : goal.invariant-loop-i

@@ -1,7 +1,6 @@
 -- `differs` meets its contract: the answers of both searches, compared. Assumes nothing.
 use native.Mathlib.Omega.{arith}
 use Rattle.isotherm.proofs.Counted.{same_counts_0, other_counts_1}
-use borrow.Author.Rules.{rules}
 use Rattle.isotherm.proofs.pairs.differs.Goals as goal
 
 pub returns-then-same : goal.returns-then-same

@@ -1,9 +1,8 @@
 -- `pairs_that_differ` meets its contract. The invariant: the count is that of the first n pressures; the measure is how many are left.
 -- Assumes nothing.
 use mathlib.Core.Path.{◌≡◌, refl, ap, ◌∙◌}
-use Prim.Native.Nat.{◌+◌, ◌-◌, ◌*◌, ◌≤◌}
+use Prim.Native.Nat.{◌+◌, ◌*◌}
 use native.Mathlib.Omega.{arith}
-use borrow.Author.Rules.{rules}
 use lib.Dec.{le→leb}
 use lib.Ieee.{in_float}
 use Rattle.isotherm.specs.Pairs.{differing}

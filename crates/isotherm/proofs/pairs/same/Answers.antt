@@ -2,7 +2,6 @@
 use mathlib.Core.Path.{◌∙◌, sym}
 use borrow.Author.Tests.{eq-eqb, ne_eqb}
 use Rattle.isotherm.specs.Pairs.{same_of}
-use borrow.Author.Rules.{rules}
 use Rattle.isotherm.proofs.pairs.same.Goals as goal
 
 pub returns-then-found_bits : goal.returns-then-found_bits

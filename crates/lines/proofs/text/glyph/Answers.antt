@@ -1,7 +1,6 @@
 -- `glyph` meets its contract: its test is that of the definition. Assumes nothing.
 use borrow.Author.Tests.{lt-ltb, le-ltb}
 use Rattle.lines.specs.Text.{glyph_of}
-use borrow.Author.Rules.{rules}
 use Rattle.lines.proofs.text.glyph.Goals as goal
 
 pub returns-then-d-lt10 : goal.returns-then-d-lt10

@@ -1,7 +1,6 @@
 -- `put_byte` meets its contract: one store. Assumes nothing.
 use native.Mathlib.Omega.{arith}
 use Rattle.lines.proofs.Placing.{one}
-use borrow.Author.Rules.{rules}
 use Rattle.lines.proofs.text.put_byte.Goals as goal
 
 pub returns : goal.returns

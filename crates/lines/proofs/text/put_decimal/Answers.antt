@@ -5,7 +5,6 @@ use native.Mathlib.Omega.{arith}
 use Rattle.lines.specs.Text.{digits_of, decimal_of}
 use Rattle.lines.proofs.Digits.{width_small}
 use Rattle.lines.proofs.Placing.{as_text}
-use borrow.Author.Rules.{rules}
 use Rattle.lines.proofs.text.put_decimal.Goals as goal
 
 pub put_digits-requires : goal.put_digits-requires

@@ -1,7 +1,6 @@
 -- `put_pair` meets its contract: one byte, then the other. Assumes nothing.
 use native.Mathlib.Omega.{arith}
 use Rattle.lines.proofs.Placing.{then}
-use borrow.Author.Rules.{rules}
 use Rattle.lines.proofs.text.put_pair.Goals as goal
 
 pub returns : goal.returns

@@ -1,9 +1,8 @@
 -- `width` meets its contract. The loop's invariant: the digits counted and those of the rest are the number's, and one is counted
 -- twice. The measure is what is left of the twenty. Assumes nothing.
 use mathlib.Core.Path.{◌≡◌, ◌∙◌, ap}
-use Prim.Native.Nat.{ℕ, suc, ◌+◌, ◌-◌, ◌/◌, ◌≤◌}
+use Prim.Native.Nat.{ℕ, suc, ◌+◌, ◌-◌, ◌/◌}
 use native.Mathlib.Omega.{arith}
-use borrow.Author.Rules.{rules}
 use Rattle.lines.specs.Text.{width_of}
 use Rattle.lines.proofs.Digits.{one_digit, more_digits}
 use Rattle.lines.proofs.text.width.Goals as goal

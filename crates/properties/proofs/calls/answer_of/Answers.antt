@@ -1,7 +1,6 @@
 -- `answer_of` meets its contract: the inputs' refusal where they are denied, and the work's answer where they are granted. Assumes
 -- nothing.
 use mathlib.Core.Path.{sym, ◌∙◌, ap}
-use borrow.Author.Rules.{rules}
 use lib.Ieee.{Float}
 use Rattle.refusals.proofs.Needed.{permitted_granted, permitted_denied}
 use Rattle.equation.specs.State.{state_at}

@@ -1,5 +1,4 @@
 -- `energy` meets its contract: it is the call of its property. Assumes nothing.
-use borrow.Author.Rules.{rules}
 use Rattle.properties.specs.Calls.{energy_of}
 use Rattle.properties.proofs.calls.energy.Goals as goal
 

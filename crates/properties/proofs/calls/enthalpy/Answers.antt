@@ -1,5 +1,4 @@
 -- `enthalpy` meets its contract: it is the call of its property. Assumes nothing.
-use borrow.Author.Rules.{rules}
 use Rattle.properties.specs.Calls.{enthalpy_of}
 use Rattle.properties.proofs.calls.enthalpy.Goals as goal
 

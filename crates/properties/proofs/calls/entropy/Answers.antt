@@ -1,5 +1,4 @@
 -- `entropy` meets its contract: it is the call of its property. Assumes nothing.
-use borrow.Author.Rules.{rules}
 use Rattle.properties.specs.Calls.{entropy_of}
 use Rattle.properties.proofs.calls.entropy.Goals as goal
 

@@ -1,5 +1,4 @@
 -- `gibbs_energy` meets its contract: it is the call of its property. Assumes nothing.
-use borrow.Author.Rules.{rules}
 use Rattle.properties.specs.Calls.{gibbs_of}
 use Rattle.properties.proofs.calls.gibbs_energy.Goals as goal
 

@@ -1,5 +1,4 @@
 -- `helmholtz_energy` meets its contract: it is the call of its property. Assumes nothing.
-use borrow.Author.Rules.{rules}
 use Rattle.properties.specs.Calls.{helmholtz_of}
 use Rattle.properties.proofs.calls.helmholtz_energy.Goals as goal
 

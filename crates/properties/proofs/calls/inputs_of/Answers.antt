@@ -1,5 +1,4 @@
 -- `inputs_of` meets its contract, property by property. Assumes nothing.
-use borrow.Author.Rules.{rules}
 use Rattle.properties.proofs.calls.inputs_of.Goals as goal
 
 pub returns-in-Pressure : goal.returns-in-Pressure

@@ -1,5 +1,4 @@
 -- `isobaric_heat_capacity` meets its contract: it is the call of its property. Assumes nothing.
-use borrow.Author.Rules.{rules}
 use Rattle.properties.specs.Calls.{isobaric_of}
 use Rattle.properties.proofs.calls.isobaric_heat_capacity.Goals as goal
 

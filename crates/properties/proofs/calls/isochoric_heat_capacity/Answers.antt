@@ -1,5 +1,4 @@
 -- `isochoric_heat_capacity` meets its contract: it is the call of its property. Assumes nothing.
-use borrow.Author.Rules.{rules}
 use Rattle.properties.specs.Calls.{isochoric_of}
 use Rattle.properties.proofs.calls.isochoric_heat_capacity.Goals as goal
 

@@ -1,5 +1,4 @@
 -- `pressure` meets its contract: it is the call of its property. Assumes nothing.
-use borrow.Author.Rules.{rules}
 use Rattle.properties.specs.Calls.{pressure_of}
 use Rattle.properties.proofs.calls.pressure.Goals as goal
 

@@ -1,5 +1,4 @@
 -- `sound_speed` meets its contract: it is the call of its property. Assumes nothing.
-use borrow.Author.Rules.{rules}
 use Rattle.properties.specs.Calls.{sound_speed_of}
 use Rattle.properties.proofs.calls.sound_speed.Goals as goal
 

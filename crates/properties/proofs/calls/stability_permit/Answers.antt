@@ -1,6 +1,5 @@
 -- `stability_permit` meets its contract: its tests are those of the definition, one by one. Assumes nothing.
 use mathlib.Core.Path.{sym, ◌∙◌}
-use borrow.Author.Rules.{rules}
 use Rattle.arithmetic.proofs.Literals.{lit_0}
 use Rattle.properties.specs.Calls.{stable_of}
 use Rattle.properties.proofs.calls.stability_permit.Goals as goal

@@ -1,6 +1,5 @@
 -- `stable_sound_speed` meets its contract: the permit's answer where it is denied, and the value's where it is granted. Assumes nothing.
 use mathlib.Core.Path.{sym, ◌∙◌, ap}
-use borrow.Author.Rules.{rules}
 use Rattle.refusals.proofs.Needed.{permitted_granted, permitted_denied}
 use Rattle.arithmetic.specs.Answered.{answer_from}
 use Rattle.stability.specs.Stability.{sound_speed_from, sound_speed_value}

@@ -1,6 +1,5 @@
 -- `state_of` meets its contract: the state of what is kept. Assumes nothing.
 use mathlib.Core.Path.{◌∙◌, ap}
-use borrow.Author.Rules.{rules}
 use Rattle.kept.specs.declared.Kept.{Kept}
 use Rattle.equation.specs.State.{state_of}
 use Rattle.properties.proofs.calls.state_of.Goals as goal

@@ -1,6 +1,5 @@
 -- `worked` meets its contract, property by property: the value of the state, or its refusal. Assumes nothing.
 use mathlib.Core.Path.{◌∙◌, ap}
-use borrow.Author.Rules.{rules}
 use Rattle.arithmetic.specs.Answered.{answer_from}
 use Rattle.kept.specs.declared.Kept.{Kept}
 use Rattle.equation.specs.State.{pressure_at}

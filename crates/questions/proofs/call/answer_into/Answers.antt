@@ -16,7 +16,6 @@ use Rattle.questions.specs.declared.Question.{Question}
 use Rattle.records.specs.Record.{record_of}
 use Rattle.questions.specs.Asked.{asked_of, question_of, work_of}
 use Rattle.questions.specs.Call.{permit_of, call_of, output_of, call_code, call_output}
-use borrow.Author.Rules.{rules}
 use Rattle.questions.proofs.call.answer_into.Goals as goal
 
 -- the call's outcome, once what the record asks and whether it is permitted are known

@@ -3,7 +3,6 @@ use mathlib.Core.Path.{sym, ◌∙◌, ap}
 use Rattle.refusals.specs.declared.Answer.{Answer}
 use Rattle.refusals.specs.Code.{answer_code_of}
 use Rattle.questions.specs.Call.{output_of}
-use borrow.Author.Rules.{rules}
 use Rattle.questions.proofs.call.handed_out.Goals as goal
 
 pub returns-in-Number : goal.returns-in-Number

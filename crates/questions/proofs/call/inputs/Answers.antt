@@ -1,6 +1,5 @@
 -- `inputs` meets its contract: by what the record asks. Assumes nothing.
 use mathlib.Core.Path.{refl}
-use borrow.Author.Rules.{rules}
 use Rattle.questions.proofs.call.inputs.Goals as goal
 
 pub returns-in-State : goal.returns-in-State

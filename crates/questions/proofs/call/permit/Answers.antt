@@ -1,6 +1,5 @@
 -- `permit` meets its contract: the room is one test more than the inputs'. Assumes nothing.
 use mathlib.Core.Path.{◌∙◌, ap}
-use borrow.Author.Rules.{rules}
 use lib.Dec.{leb}
 use Rattle.refusals.specs.declared.Refusal.TheVariants.{TooShort}
 use Rattle.refusals.specs.declared.Permit.{Permit}

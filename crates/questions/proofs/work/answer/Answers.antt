@@ -1,7 +1,6 @@
 -- `answer` meets its contract: the answer to what was asked by what was read. Assumes nothing.
 use mathlib.Core.Path.{◌∙◌, ap}
 use Rattle.questions.specs.Asked.{asked_of, work_of, question_of, answer_of}
-use borrow.Author.Rules.{rules}
 use Rattle.questions.proofs.work.answer.Goals as goal
 
 pub returns : goal.returns

@@ -1,7 +1,6 @@
 -- `asked` meets its contract, by what was read. Assumes nothing.
 use mathlib.Core.Path.{refl, sym, ◌∙◌, ap}
 use Rattle.questions.specs.Asked.{asked_of}
-use borrow.Author.Rules.{rules}
 use Rattle.questions.proofs.work.asked.Goals as goal
 
 pub returns-in-Marked : goal.returns-in-Marked

@@ -1,6 +1,5 @@
 -- `asked_by` meets its contract, kind by kind. Assumes nothing.
 use mathlib.Core.Path.{refl}
-use borrow.Author.Rules.{rules}
 use Rattle.questions.proofs.work.asked_by.Goals as goal
 
 pub returns-in-Density : goal.returns-in-Density

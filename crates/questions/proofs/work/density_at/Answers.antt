@@ -4,7 +4,6 @@ use Rattle.outcomes.specs.Codes.{found_answer_of}
 use Rattle.fluids.specs.declared.Constants.{Constants}
 use Rattle.density.specs.Calls.{plain_of}
 use Rattle.questions.specs.Asked.{density_at}
-use borrow.Author.Rules.{rules}
 use Rattle.questions.proofs.work.density_at.Goals as goal
 
 pub returns : goal.returns

@@ -1,7 +1,6 @@
 -- `worked` meets its contract, by the three things that a record asks. Assumes nothing.
 use mathlib.Core.Path.{refl}
 use Rattle.properties.specs.Calls.{pressure_of}
-use borrow.Author.Rules.{rules}
 use Rattle.questions.proofs.work.worked.Goals as goal
 
 pub returns-in-State : goal.returns-in-State

@@ -1,7 +1,6 @@
 -- `kind_letter` meets its contract, kind by kind. Assumes nothing.
 use mathlib.Core.Path.{refl}
 use Rattle.records.specs.Record.{kind_letter}
-use borrow.Author.Rules.{rules}
 use Rattle.records.proofs.mark.kind_letter.Goals as goal
 
 pub returns-in-Density : goal.returns-in-Density

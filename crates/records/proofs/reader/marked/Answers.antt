@@ -7,7 +7,6 @@ use Rattle.fluids.specs.declared.Named.{Named}
 use Rattle.fluids.specs.Entries.{fluid_lettered}
 use Rattle.records.specs.declared.Record.{Record}
 use Rattle.records.specs.Record.{by_fluid, marked_of}
-use borrow.Author.Rules.{rules}
 use Rattle.records.proofs.reader.marked.Goals as goal
 
 by_first : (s : List ℕ) {named known : Named} {r : Record} → named ≡ fluid_lettered (byte_at s 0) → named ≡ known → r ≡ by_fluid known s → r ≡ marked_of s

@@ -6,7 +6,6 @@ use lib.ListN.{drop}
 use Rattle.words.proofs.Front.{word_front}
 use Rattle.records.specs.Record.{carried, numbers_of}
 use Rattle.records.proofs.Laid.{carried_some, carried_none}
-use borrow.Author.Rules.{rules}
 use Rattle.records.proofs.reader.numbers.Goals as goal
 
 pub returns-then-carries_numbers : goal.returns-then-carries_numbers

@@ -7,7 +7,6 @@ use Rattle.fluids.specs.declared.Fluid.{Fluid}
 use Rattle.records.specs.declared.Lettered.{Lettered}
 use Rattle.records.specs.declared.Record.{Record}
 use Rattle.records.specs.Record.{kind_lettered, by_kind, of_fluid}
-use borrow.Author.Rules.{rules}
 use Rattle.records.proofs.reader.of_fluid.Goals as goal
 
 by_second : (F : Fluid) (s : List ℕ) {named known : Lettered} {r : Record} → named ≡ kind_lettered (byte_at s 1) → named ≡ known → r ≡ by_kind known F s → r ≡ of_fluid F s

@@ -6,7 +6,6 @@ use lib.ListN.{length}
 use borrow.Author.Tests.{eq-eqb, ne_eqb}
 use Rattle.records.specs.declared.Record.TheVariants.{Cut}
 use Rattle.records.specs.Record.{marked_of, record_of}
-use borrow.Author.Rules.{rules}
 use Rattle.records.proofs.reader.read.Goals as goal
 
 module _ (s : List ℕ) where

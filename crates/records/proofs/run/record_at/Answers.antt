@@ -7,7 +7,6 @@ use lib.ListN.{length, take, drop, length-drop, drop_of_length-le}
 use lib.Seq.{take_all, drop-length}
 use Rattle.words.proofs.Tail.{tail_read}
 use Rattle.records.specs.Run.{record_at}
-use borrow.Author.Rules.{rules}
 use Rattle.records.proofs.run.record_at.Goals as goal
 
 module _ (s : List ℕ) (k : ℕ) where

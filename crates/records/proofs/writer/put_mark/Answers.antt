@@ -1,7 +1,6 @@
 -- `put_mark` meets its contract: two stores in a row put their bytes in place of as many. Assumes nothing.
 use mathlib.Core.Path.{◌∙◌}
 use mathlib.Core.List.{[], ◌∷◌}
-use borrow.Author.Rules.{rules}
 use lib.Seq.{sets-eq}
 use Rattle.records.specs.Record.{mark_of}
 use Rattle.records.proofs.writer.put_mark.Goals as goal

@@ -1,5 +1,4 @@
 -- `put_words` meets its contract: the second word goes into the tail that the first left as it was. Assumes nothing.
-use borrow.Author.Rules.{rules}
 use Rattle.words.proofs.Written.{two_words}
 use Rattle.records.proofs.writer.put_words.Goals as goal
 

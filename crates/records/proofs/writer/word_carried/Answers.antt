@@ -1,7 +1,6 @@
 -- `word_carried` meets its contract, by whether the kind carries numbers. Assumes nothing.
 use mathlib.Core.Path.{sym, ◌∙◌}
 use Rattle.records.proofs.Laid.{carried_some, carried_none}
-use borrow.Author.Rules.{rules}
 use Rattle.records.proofs.writer.word_carried.Goals as goal
 
 pub returns-then-carries_numbers : goal.returns-then-carries_numbers

@@ -1,6 +1,5 @@
 -- `from_first` meets its contract: the first term, and the sum of the others upon it. Assumes nothing.
 use native.Mathlib.Omega.{arith}
-use borrow.Author.Rules.{rules}
 use Rattle.saturation.specs.Estimates.{term_at, from_first}
 use Rattle.saturation.proofs.Terms.{begun_with}
 use Rattle.saturation.proofs.estimates.from_first.Goals as goal

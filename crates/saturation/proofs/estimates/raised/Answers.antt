@@ -9,7 +9,6 @@ use Rattle.elementary.specs.Power.{power_of}
 use Rattle.arithmetic.proofs.Literals.{lit_0}
 use Rattle.exponentials.proofs.ExpRange.{exp_squash}
 use Rattle.elementary.proofs.Ranges.{power_squash}
-use borrow.Author.Rules.{rules}
 use Rattle.saturation.proofs.estimates.raised.Goals as goal
 
 zero : (x t : Float) → eq x (real 0) ≡ true → of_bits binary64 0 ≡ power_of x t

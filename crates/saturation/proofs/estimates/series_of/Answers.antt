@@ -1,7 +1,6 @@
 -- `series_of` meets its contract, curve by curve: what is summed of the code's table is the sum of the entry's terms. Assumes nothing.
 use mathlib.Core.Path.{sym, ◌∙◌, ap}
 use native.Mathlib.Omega.{arith}
-use borrow.Author.Rules.{rules}
 use Rattle.arithmetic.specs.Checked.{squash}
 use Rattle.arithmetic.proofs.Literals.{lit_1, squash_1}
 use Rattle.saturation.specs.Estimates.{series_of}

@@ -1,12 +1,9 @@
 -- `sum_of` meets its contract. The loop's invariant: the sum has n terms more than at the start. The measure is what is left of
 -- them. Assumes nothing.
-use mathlib.Core.Path.{◌≡◌, refl}
-use Prim.Native.Nat.{◌+◌, ◌-◌, ◌≤◌}
-use native.Mathlib.Omega.{arith}
-use borrow.Author.Rules.{rules}
+use mathlib.Core.Path.{◌≡◌}
+use Prim.Native.Nat.{◌-◌, ◌≤◌}
 use Rattle.arithmetic.specs.Checked.{squash}
-use Rattle.saturation.specs.Estimates.{term_at, plus_terms}
-use Rattle.saturation.proofs.Terms.{plus_turn}
+use Rattle.saturation.specs.Estimates.{plus_terms}
 use Rattle.saturation.proofs.estimates.sum_of.Given as goal
 
 abbrev pub invariant-loop-n : goal.invariant-loop-n

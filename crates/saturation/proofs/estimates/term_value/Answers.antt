@@ -4,7 +4,6 @@ use Rattle.arithmetic.proofs.Operations.{squash_mul}
 use Rattle.elementary.proofs.Ranges.{power_squashed}
 use Rattle.fluids.specs.Finite.{FiniteEstimate}
 use Rattle.saturation.specs.Estimates.{term_of}
-use borrow.Author.Rules.{rules}
 use Rattle.saturation.proofs.estimates.term_value.Goals as goal
 
 pub returns-in-Alone : goal.returns-in-Alone

@@ -1,6 +1,5 @@
 -- `value_of` meets its contract, curve by curve: squash goes through each operation. Assumes nothing.
 use mathlib.Core.Path.{sym, ◌∙◌}
-use borrow.Author.Rules.{rules}
 use Rattle.arithmetic.proofs.Operations.{squash_mul, squash_sub, squash_over}
 use Rattle.arithmetic.proofs.Literals.{lit_1, squash_1}
 use Rattle.arithmetic.proofs.Forced.{forced}

@@ -1,18 +1,13 @@
 -- `x_exponents` meets its contract, row by row. The measure is what is left of the rows. Assumes nothing.
-use mathlib.Core.Path.{◌≡◌, refl, ◌∙◌, ap}
+use mathlib.Core.Path.{◌≡◌}
 use mathlib.Core.List.{List}
 use Prim.Native.Nat.{ℕ, ◌+◌, ◌≤◌, ◌-◌}
-use native.Mathlib.Omega.{arith}
-use borrow.Author.Rules.{rules}
 use lib.Ieee.{Float}
 use Rattle.arithmetic.specs.Checked.{squash}
 use Rattle.exponentials.specs.Exp.{exp_of}
-use Rattle.arithmetic.proofs.Places.{Worked, none_worked, one_worked, all_worked}
+use Rattle.arithmetic.proofs.Places.{Worked}
 use Rattle.fluids.specs.declared.Term.{Term}
-use Rattle.sums.specs.Rows.{x_at}
 use Rattle.sums.specs.Factors.{x_of_row}
-use Rattle.fluids.proofs.Table.{read_row, read_row_finite}
-use Rattle.sums.proofs.Table.{x_over}
 use Rattle.sums.proofs.factors.x_exponents.Given as goal
 
 abbrev pub Done : Float → List Term → List Float → ℕ → Float → Type 0

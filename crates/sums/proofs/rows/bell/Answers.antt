@@ -5,7 +5,6 @@ use Rattle.arithmetic.proofs.Forced.{forced}
 use Rattle.arithmetic.proofs.Literals.{lit_2, squash_2}
 use Rattle.sums.specs.Rows.{row_at}
 use Rattle.sums.proofs.Table.{whole_finite}
-use borrow.Author.Rules.{rules}
 use Rattle.sums.proofs.rows.bell.Goals as goal
 
 pub returns : goal.returns

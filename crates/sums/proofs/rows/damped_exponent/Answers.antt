@@ -2,7 +2,6 @@
 use mathlib.Core.Path.{◌∙◌, sym}
 use Rattle.arithmetic.proofs.Operations.{squash_neg}
 use Rattle.exponentials.proofs.ExpRange.{exp_squash}
-use borrow.Author.Rules.{rules}
 use Rattle.sums.proofs.rows.damped_exponent.Goals as goal
 
 pub returns : goal.returns

@@ -4,7 +4,6 @@ use Prim.Native.Nat.{ℕ}
 use Rattle.arithmetic.specs.Checked.{squash, minus}
 use Rattle.exponentials.specs.Exp.{exp_of}
 use Rattle.elementary.specs.Power.{◌↑◌}
-use borrow.Author.Rules.{rules}
 use Rattle.sums.proofs.rows.damped_x.Goals as goal
 
 pub returns-then-l-eq1 : goal.returns-then-l-eq1

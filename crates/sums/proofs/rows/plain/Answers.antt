@@ -4,7 +4,6 @@ use Rattle.arithmetic.proofs.Operations.{squash_mul, squash_sub}
 use Rattle.arithmetic.proofs.Forced.{forced}
 use Rattle.sums.specs.Rows.{row_at}
 use Rattle.sums.proofs.Table.{whole_finite}
-use borrow.Author.Rules.{rules}
 use Rattle.sums.proofs.rows.plain.Goals as goal
 
 pub returns : goal.returns

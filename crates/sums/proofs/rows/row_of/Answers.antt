@@ -2,7 +2,6 @@
 use mathlib.Core.Path.{◌∙◌, sym, ap, subst}
 use Rattle.fluids.specs.Finite.{FiniteTerm}
 use Rattle.sums.specs.Rows.{row_at}
-use borrow.Author.Rules.{rules}
 use Rattle.sums.proofs.rows.row_of.Goals as goal
 
 pub plain-requires : goal.plain-requires

@@ -1,14 +1,9 @@
 -- `whole_power` meets its contract. The loop's invariant: p is the product of the first i factors. The measure is what is left of
 -- n. Assumes nothing.
-use mathlib.Core.Path.{◌≡◌, ◌∙◌}
+use mathlib.Core.Path.{◌≡◌}
 use Prim.Native.Nat.{◌≤◌, ◌-◌}
-use native.Mathlib.Omega.{arith}
-use native.Mathlib.Numerals.{add-one}
-use borrow.Author.Rules.{rules}
 use Rattle.arithmetic.specs.Checked.{squash}
 use Rattle.elementary.specs.Power.{◌↑◌}
-use Rattle.arithmetic.proofs.Operations.{squash_mul}
-use Rattle.arithmetic.proofs.Literals.{lit_1, squash_1}
 use Rattle.sums.proofs.rows.whole_power.Given as goal
 
 abbrev pub invariant-loop-i : goal.invariant-loop-i

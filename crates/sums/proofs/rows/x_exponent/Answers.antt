@@ -5,7 +5,6 @@ use Rattle.arithmetic.proofs.Literals.{lit_0}
 use Rattle.exponentials.proofs.ExpWorked.{exp_0}
 use Rattle.fluids.specs.Finite.{FiniteTerm}
 use Rattle.sums.specs.Rows.{x_at}
-use borrow.Author.Rules.{rules}
 use Rattle.sums.proofs.rows.x_exponent.Goals as goal
 
 pub bell_exponent-requires : goal.bell_exponent-requires

@@ -3,7 +3,6 @@ use mathlib.Core.Path.{◌∙◌, sym, ap, subst}
 use Rattle.arithmetic.proofs.Literals.{lit_1}
 use Rattle.fluids.specs.Finite.{FiniteTerm}
 use Rattle.sums.specs.Rows.{x_at}
-use borrow.Author.Rules.{rules}
 use Rattle.sums.proofs.rows.x_of.Goals as goal
 
 pub bell_exponent-requires : goal.bell_exponent-requires
