@@ -1,6 +1,5 @@
 -- Pressure, energy, enthalpy and isochoric heat capacity never refuse with 12, whatever the two numbers are; at every state in range they answer with the number.
 use mathlib.Core.Path.{◌≡◌}
-use lib.Dec.{T}
 use lib.Ieee.{Float}
 use Rattle.refusals.specs.declared.Refusal.TheVariants.{WorkNotFinite}
 use Rattle.refusals.specs.declared.Permit.TheVariants.{Granted}

@@ -3,15 +3,13 @@
 use mathlib.Core.Path.{◌≡◌, refl, subst}
 use mathlib.Core.Logic.{inl, inr}
 use mathlib.Core.Bool.{Bool, true, false, not, cond}
-use mathlib.Core.List.{List, [], ◌∷◌, ◌++◌}
+use mathlib.Core.List.{List, [], ◌∷◌}
 use Prim.Native.Nat.{ℕ}
 use lib.Dec.{leb, eqb}
 use lib.Ieee.{Float}
 use lib.ListN.{length}
-use Rattle.refusals.specs.declared.Refusal.{Refusal}
-use Rattle.refusals.specs.declared.Refusal.TheVariants.{UnknownFluid, GaveUp}
-use Rattle.refusals.specs.declared.Permit.{Permit}
-use Rattle.refusals.specs.declared.Permit.TheVariants.{Granted, Denied}
+use Rattle.refusals.specs.declared.Refusal.TheVariants.{UnknownFluid}
+use Rattle.refusals.specs.declared.Permit.TheVariants.{Denied}
 use Rattle.refusals.specs.declared.Answer.{Answer}
 use Rattle.refusals.specs.declared.Answer.TheVariants.{Number, Refused}
 use Rattle.refusals.specs.Code.{code_of, answer_code_of, permit_code_of, OneOf}
@@ -28,8 +26,7 @@ use Rattle.coexistence.specs.declared.Paired.{Paired}
 use Rattle.coexistence.specs.declared.Paired.TheVariants.{Pair}
 use Rattle.coexistence.specs.Judge.{judge_tests, judge_of}
 use Rattle.coexistence.specs.Proposer.{pair, accepts, pairs_after, first_accepted, started_with, pair_of}
-use Rattle.coexistence.specs.Call.{Ended, paired_code_of, refused_with, where_granted, handed_on, pair_into, saturation_of}
-use Rattle.bounds.specs.NoAnswer.{Codes}
+use Rattle.coexistence.specs.Call.{paired_code_of, refused_with, handed_on, pair_into, saturation_of}
 use Rattle.bounds.specs.Pairs.{PairCalls}
 use Rattle.bounds.proofs.Among.{each_of}
 use Rattle.bounds.proofs.Codes.{codes}

@@ -10,7 +10,7 @@ use native.Mathlib.Omega.{arith}
 use borrow.Author.Tests.{leb-true}
 use lib.Dec.{T, leb, lit<, leb→le}
 use lib.ListN.{length}
-use lib.Ieee.{Float, of_int, round, mul, le, lt, is_nan}
+use lib.Ieee.{Float, of_int, round, le, lt, is_nan}
 use lib.Ieee.Fits.{and_i}
 use lib.Ieee.Exact.{HasValue}
 use lib.Ieee.Order.{le_of_values}

@@ -21,7 +21,6 @@ use Rattle.refusals.proofs.InOrder.{never_denied}
 use Rattle.arithmetic.specs.Checked.{real, two⁻, between, ◌⊕◌, ◌⊗◌}
 use Rattle.roots.specs.Root.{root_of}
 use Rattle.arithmetic.specs.Answered.{answer_from}
-use Rattle.arithmetic.proofs.Order as tests
 use Rattle.fluids.specs.declared.Fluid.{Fluid}
 use Rattle.kept.specs.Kept.{kept_of}
 use Rattle.equation.specs.State.{state_of, state_at}

@@ -1,5 +1,4 @@
 -- Each public call of the crate `runs` promises one outcome: its contract gives it by a definition of its arguments.
-use mathlib.Core.Path.{sym, ◌∙◌}
 use mathlib.Core.List.{List}
 use Prim.Native.Nat.{ℕ}
 use Rattle.promises.specs.OneOutcome.{OneOutcome}

@@ -3,7 +3,6 @@ use mathlib.Core.Path.{sym}
 use native.Mathlib.Omega.{arith}
 use lib.Seq.{length-take-le}
 use Rattle.probe_replies.proofs.Progress.{replies_inside}
-use borrow.Author.Rules.{rules}
 use Rattle.probe.proofs.block.Goals as goal
 
 pub slice_bounds-out-end : goal.slice_bounds-out-end

@@ -1,7 +1,6 @@
 -- `answer_over` meets its contract: its tests are those of `look_up`, row by row, and the lists serve what the quick search is asked.
 -- Assumes nothing.
 use mathlib.Core.Path.{◌∙◌, sym}
-use borrow.Author.Rules.{rules}
 use Rattle.search.specs.declared.Side.TheVariants.{FromBelow, FromAbove}
 use Rattle.probe_calls.proofs.Rows.{found, passed_over, none, at_numbers}
 use Rattle.probe_calls.proofs.Numbers.{asked_at}

@@ -1,7 +1,6 @@
 -- `prepare_next` meets its contract: the words that it reads are those of the question. Assumes nothing.
 use native.Mathlib.Omega.{arith}
 use Rattle.probe_replies.proofs.Served.{words_serve}
-use borrow.Author.Rules.{rules}
 use Rattle.probe_replies.proofs.prepare_next.Goals as goal
 
 pub returns-then-next-lt24 : goal.returns-then-next-lt24

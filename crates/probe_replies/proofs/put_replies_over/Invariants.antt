@@ -1,12 +1,9 @@
 -- `put_replies_over` meets its contract. The loop's invariant: the first k questions are answered in the first 16·k places, the places
 -- after them are as they were, and the lists serve what is kept. The measure is what is left of the input. Assumes nothing.
 use Prim.Native.Nat.{◌+◌, ◌-◌, ◌*◌, ◌<◌}
-use native.Mathlib.Omega.{arith}
-use borrow.Author.Rules.{rules}
 use lib.ListN.{length}
 use Rattle.probe_replies.specs.Serving.{KeptFor}
-use Rattle.probe_replies.proofs.Progress.{Answered, none_yet, one_more, stopped, finished}
-use Rattle.probe_replies.proofs.Served.{any_serve_none}
+use Rattle.probe_replies.proofs.Progress.{Answered}
 use Rattle.probe_replies.proofs.put_replies_over.Given as goal
 
 abbrev pub invariant-loop-k : goal.invariant-loop-k

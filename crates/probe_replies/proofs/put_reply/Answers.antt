@@ -1,7 +1,6 @@
 -- `put_reply` meets its contract: the second word goes into the tail that the first left as it was. Assumes nothing.
 use mathlib.Core.Path.{◌∙◌, ap}
 use Prim.Native.Nat.{ℕ, ◌-◌}
-use borrow.Author.Rules.{rules}
 use lib.ListN.{length, take, drop}
 use Rattle.probe_replies.specs.Replies.{reply_bytes}
 use Rattle.words.specs.Word.{with_word}

@@ -5,7 +5,6 @@ use borrow.Author.Tests.{le-leb, lt-leb}
 use Rattle.words.proofs.Tail.{tail_read}
 use Rattle.probe_replies.specs.Replies.{reply_at}
 use Rattle.probe_replies.proofs.Served.{next_serves}
-use borrow.Author.Rules.{rules}
 use Rattle.probe_replies.proofs.reply_at.Goals as goal
 
 pub returns-then-s-lt24 : goal.returns-then-s-lt24

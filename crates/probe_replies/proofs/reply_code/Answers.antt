@@ -1,6 +1,5 @@
 -- `reply_code` meets its contract, by the reply's two forms. Assumes nothing.
 use mathlib.Core.Path.{sym, ap, ◌∙◌}
-use borrow.Author.Rules.{rules}
 use Rattle.probe_replies.specs.Replies.{reply_code}
 use Rattle.probe_replies.proofs.reply_code.Goals as goal
 

@@ -1,7 +1,6 @@
 -- `reply_over` meets its contract: its tests are those of `look_up`, row by row, and the lists serve what the call for a number is asked.
 -- Assumes nothing.
 use mathlib.Core.Path.{◌∙◌, sym, ap}
-use borrow.Author.Rules.{rules}
 use Rattle.probe_calls.proofs.Rows.{found, passed_over, none}
 use Rattle.probe_words.specs.Reply.{number_reply}
 use Rattle.probe_replies.specs.Question.{reply_to}

@@ -1,6 +1,5 @@
 -- `print_lines` stays inside s and ends. The loop's invariant: `from` is at most the length. Assumes nothing.
 use Prim.Native.Nat.{◌≤◌, ◌-◌}
-use borrow.Author.Rules.{rules}
 use lib.ListN.{length}
 use Rattle.test_vectors.proofs.print_lines.Given as goal
 

@@ -1,6 +1,5 @@
 -- `verriblom_accept` meets its contract: the number of what `accept` permits. Assumes nothing.
 use mathlib.Core.Path.{◌∙◌, ap}
-use borrow.Author.Rules.{rules}
 use Rattle.refusals.specs.Code.{permit_code_of}
 use Rattle.verriblom.proofs.verriblom_accept.Goals as goal
 

@@ -1,5 +1,4 @@
 -- `verriblom_saturation` meets its contract, which is that of `saturation_into`. Assumes nothing.
-use borrow.Author.Rules.{rules}
 use Rattle.verriblom.proofs.verriblom_saturation.Goals as goal
 
 pub returns : goal.returns

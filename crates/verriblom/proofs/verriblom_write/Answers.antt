@@ -1,5 +1,4 @@
 -- `verriblom_write` meets its contract, which is that of `write`. Assumes nothing.
-use borrow.Author.Rules.{rules}
 use Rattle.verriblom.proofs.verriblom_write.Goals as goal
 
 pub returns : goal.returns

@@ -1,6 +1,5 @@
 -- `prepare_for` meets its contract: the lists serve what they served, or what they were prepared for. Assumes nothing.
 use mathlib.Core.Path.{◌∙◌, sym, ap}
-use borrow.Author.Rules.{rules}
 use Rattle.fluids.specs.Entries.{fluid_numbered}
 use Rattle.probe_replies.proofs.Served.{serves_at_same, both_same, serves_other}
 use Rattle.probe_replies.proofs.searches.prepare_for.Goals as goal

@@ -1,5 +1,4 @@
 -- `prepare_lists` meets its contract: the lists serve what they were prepared for. Assumes nothing.
-use borrow.Author.Rules.{rules}
 use Rattle.fluids.specs.Entries.{fluid_numbered}
 use Rattle.probe_replies.proofs.Served.{prepared_kept}
 use Rattle.probe_replies.proofs.searches.prepare_lists.Goals as goal

@@ -1,7 +1,6 @@
 -- `quick_answer` meets its contract: over lists that serve t the quick search ends as over the prepared ones. Assumes nothing.
 use mathlib.Core.Path.{◌∙◌, ap}
 use Prim.Native.Nat.{ℕ}
-use borrow.Author.Rules.{rules}
 use Rattle.fluids.specs.Entries.{fluid_numbered}
 use Rattle.inputs.specs.Numbered.{by_number}
 use Rattle.search.specs.declared.Found.{Found}
