@@ -112,41 +112,55 @@ SCRIPTS: Dict[str, Case] = {
 TESTS = "== a\n4 passed, 0 failed\ncomparisons: 3 passed, 0 failed\nchecks: 1 passed, 0 failed\n4 passed, 0 failed\n"
 
 
-class Gate(NamedTuple):
-    """What the gate's parts do, and its last lines."""
+OK = "rt: ok; handles allowed: none; must-fail edits: 9 refused, 1 of them only by a limit{}; every proof was done in this run\n"
+COUNTED = "7 passed, 0 failed\n"
+PROVED = OK.format("") + COUNTED
 
-    layout_status: int
+
+class Gate(NamedTuple):
+    """What the gate's parts write, how the proofs end, and its last lines."""
+
     proofs: str
+    status: int
     tests: str
     end: str
 
 
+def kinds(proofs: str, total: str) -> str:
+    """The gate's last lines where the tests all pass."""
+    return f"\nproofs and edits: {proofs}\ncomparisons: 3 passed, 0 failed\nchecks: 1 passed, 0 failed\n{total}\n"
+
+
 GATES: Dict[str, Gate] = {
-    "all pass": Gate(
-        0,
-        "proved\n7 passed, 0 failed\n",
-        TESTS,
-        "\nproofs and edits: 8 passed, 0 failed\ncomparisons: 3 passed, 0 failed\nchecks: 1 passed, 0 failed\n12 passed, 0 failed\n",
+    "all pass": Gate(f"proved\n{PROVED}", 0, TESTS, kinds("8 passed, 0 failed", "12 passed, 0 failed")),
+    "a bad edit": Gate(OK.format(", 1 bad") + COUNTED, 0, TESTS, kinds("7 passed, 1 failed", "11 passed, 1 failed")),
+    "many bad edits": Gate(OK.format(", 12 bad") + COUNTED, 0, TESTS, kinds("7 passed, 1 failed", "11 passed, 1 failed")),
+    "proofs without edits": Gate(
+        f"rt: ok; handles allowed: none; all done\n{COUNTED}", 0, TESTS, kinds("8 passed, 0 failed", "12 passed, 0 failed")
     ),
-    "another layout": Gate(
-        1,
-        "7 passed, 0 failed\n",
+    "proofs that do not say how they went": Gate(COUNTED, 0, TESTS, kinds("7 passed, 1 failed", "11 passed, 1 failed")),
+    "proofs that fail": Gate(
+        "rt: FAILED: a\n5 passed, 2 failed\n", 1, TESTS, kinds("5 passed, 2 failed", "9 passed, 2 failed")
+    ),
+    "proofs that fail without a count": Gate(PROVED, 1, TESTS, kinds("7 passed, 1 failed", "11 passed, 1 failed")),
+    "proofs of some crates": Gate(
+        f"{OK.format('')}7 passed, 0 failed (a and the crates below alone: not the gate)\n",
+        0,
         TESTS,
-        "\nproofs and edits: 7 passed, 1 failed\ncomparisons: 3 passed, 0 failed\nchecks: 1 passed, 0 failed\n11 passed, 1 failed\n",
+        kinds("1 passed, 1 failed", "5 passed, 1 failed"),
     ),
     "proofs that end within a line": Gate(
-        0,
-        "proved\n7 passed, 0 fai",
-        TESTS,
-        "\nproofs and edits: 1 passed, 1 failed\ncomparisons: 3 passed, 0 failed\nchecks: 1 passed, 0 failed\n5 passed, 1 failed\n",
+        f"{OK.format('')}7 passed, 0 fai", 0, TESTS, kinds("1 passed, 1 failed", "5 passed, 1 failed")
     ),
     "tests without sums": Gate(
+        PROVED,
         0,
-        "7 passed, 0 failed\n",
         "== a\n4 passed, 0 failed\n",
         "\nproofs and edits: 8 passed, 0 failed\ntests: 0 passed, 1 failed\n8 passed, 1 failed\n",
     ),
 }
+# What tests/run is handed, by whether the crates had something built before.
+HANDED = {False: "--after-ci", True: ""}
 
 
 def ran(folder: Path, *words: str) -> "subprocess.CompletedProcess[str]":
@@ -168,29 +182,47 @@ def wrong_script(folder: Path, name: str, case: Case) -> Optional[str]:
 
 
 def write_command(path: Path, text: str, status: int) -> None:
-    """A command that prints the text and ends with the status."""
+    """A command that notes the words that it is handed, prints the text and ends with the status."""
     path.parent.mkdir(exist_ok=True)
     path.with_name(f"{path.name}.out").write_text(text, encoding="utf-8")
-    path.write_text(f'#!/bin/sh\ncat "{path}.out"\nexit {status}\n', encoding="utf-8")
+    path.write_text(f'#!/bin/sh\necho "$*" >"{path}.handed"\ncat "{path}.out"\nexit {status}\n', encoding="utf-8")
     path.chmod(0o755)
 
 
-def wrong_gate(folder: Path, name: str, gate: Gate) -> Optional[str]:
-    """What is wrong with the gate over such parts. Its rt is the layout's or the proofs', as the word after it says."""
+def make_gate(folder: Path, gate: Gate) -> None:
+    """The gate over parts that are made up. Its rt is another for each word after it, and proofs leave something built."""
     for place in (".ci/run", "tests/counting.sh", "KIT"):
         (folder / place).parent.mkdir(exist_ok=True)
         shutil.copy(ROOT / place, folder / place)
     write_command(folder / "tests" / "run", gate.tests, 0)
-    write_command(folder / "rt-fmt", "", gate.layout_status)
-    write_command(folder / "rt-ci", gate.proofs, 0)
+    write_command(folder / "rt-ci", gate.proofs, gate.status)
     write_command(folder / "rt-version", (ROOT / "KIT").read_text(encoding="utf-8"), 0)
-    (folder / "rt").write_text(f'#!/bin/sh\nexec "{folder}/rt-$1"\n', encoding="utf-8")
+    (folder / "crates" / "a").mkdir(parents=True)
+    (folder / "rt").write_text(
+        f'#!/bin/sh\nverb=$1\nshift\n[ "$verb" != ci ] || mkdir -p "{folder}/crates/a/out"\nexec "{folder}/rt-$verb" "$@"\n',
+        encoding="utf-8",
+    )
     (folder / "rt").chmod(0o755)
+
+
+def wrong_gate(folder: Path, name: str, gate: Gate) -> Optional[str]:
+    """What is wrong with the gate over such parts."""
+    make_gate(folder, gate)
     done = ran(folder, ".ci/run")
     status = 0 if gate.end.endswith(" 0 failed\n") else 1
     if done.returncode == status and done.stdout.endswith(gate.end):
         return None
     return f"the gate, {name}: status {done.returncode}, {done.stdout}{done.stderr}and not {status}, {gate.end}"
+
+
+def wrong_handing(folder: Path, was_built: bool) -> Optional[str]:
+    """What is wrong with what the gate hands to rt ci, which is nothing, and to the tests."""
+    make_gate(folder, GATES["all pass"])
+    if was_built:
+        (folder / "crates" / "a" / "out").mkdir()
+    ran(folder, ".ci/run")
+    handed = [(folder / f"{part}.handed").read_text(encoding="utf-8").strip() for part in ("rt-ci", "tests/run")]
+    return None if handed == ["", HANDED[was_built]] else f"the gate handed on {handed} where built before is {was_built}"
 
 
 def outcomes() -> Iterator[Optional[str]]:
@@ -201,6 +233,9 @@ def outcomes() -> Iterator[Optional[str]]:
     for name, gate in GATES.items():
         with tempfile.TemporaryDirectory() as folder:
             yield wrong_gate(Path(folder), name, gate)
+    for was_built in HANDED:
+        with tempfile.TemporaryDirectory() as folder:
+            yield wrong_handing(Path(folder), was_built)
 
 
 def main() -> int:
