@@ -2,6 +2,10 @@
 """Every public function is promised: it has an `ensures` and no `requires`, a row in docs/PROMISES.md, and a theorem in
 crates/promises that its contract allows one outcome.
 
+No crate can stand on a static library, so that no theorem can name its functions. Those of the static library LIBRARY_c are held
+to the crate LIBRARY instead: each is a call for C that has the name, the parameters and, word for word, the clauses of a function
+there and only calls it, and each function there has one; what the clauses' words mean it imports as LIBRARY does.
+
 Prints what is wrong and ends with 'N passed, M failed': one check for each function and rule, and the checker's own
 samples, each of which must be found wrong.
 """
@@ -9,28 +13,57 @@ samples, each of which must be found wrong.
 import re
 import sys
 from pathlib import Path
-from typing import Iterator, List, NamedTuple
+from typing import Dict, Iterator, List, NamedTuple, Set
 
 from last_line import ended
 
-PUBLIC = re.compile(r'^[ \t]*pub (?:[\w"]+ )*fn (\w+)', re.MULTILINE)
+PUBLIC = re.compile(r'^[ \t]*pub ((?:[\w"]+ )*)fn (\w+)', re.MULTILINE)
+ENSURES, REQUIRES = re.compile(r"\bensures (?:\w+ )?\{"), re.compile(r"\brequires (?:\w+ )?\{")
+PARAMETER = re.compile(r"(?:^|,)\s*(\w+):")
+IMPORT = re.compile(r"^ghost use ([^;{]+)(?:\{([^}]*)\})?;", re.MULTILINE)
 ROW = re.compile(r"^\| `(\w+::\w+)` \|", re.MULTILINE)
-THEOREM = re.compile(r"^use Rattle·(\w+)\.proofs\.(\w+)\.Reads as (\S+)-reads$", re.MULTILINE)
+THEOREM = re.compile(r"^use Rattle\.(\w+)\.proofs\.(\w+)\.Reads as (\w+)_reads$", re.MULTILINE)
+STATIC = re.compile(r"^(\w+)_c staticlib:", re.MULTILINE)
+RULES = 4  # those of a public function, and as many of a call for C
 
 
 class Function(NamedTuple):
-    """A public function and its text from `pub` to its body."""
+    """A public function, its text from `pub` to its body, the body, and whether C can call it by its name."""
 
     name: str
     head: str
+    body: str
+    is_for_c: bool
+
+
+class Crate(NamedTuple):
+    """A crate's public functions, and what its clauses import."""
+
+    functions: List[Function]
+    imports: Set[str]
 
 
 class Tree(NamedTuple):
     """The texts that are held against each other."""
 
-    functions: List[Function]
+    crates: Dict[str, Crate]
+    static: List[str]  # the libraries that have a static library of their functions
     table: str
     theorems: List[str]  # a text for each file
+
+    @property
+    def functions(self) -> List[Function]:
+        """All public functions but those of static libraries."""
+        return [function for name, crate in self.crates.items() if not self.is_static(name) for function in crate.functions]
+
+    def is_static(self, name: str) -> bool:
+        """Whether the crate of that name is a static library."""
+        return name in map(calls_of, self.static)
+
+
+def calls_of(library: str) -> str:
+    """The static library of a library's functions."""
+    return f"{library}_c"
 
 
 def functions_of(crate: str, source: str) -> Iterator[Function]:
@@ -40,28 +73,43 @@ def functions_of(crate: str, source: str) -> Iterator[Function]:
         text = source[found.start() :]
         with_body = text[: text.find("\n}")]
         end = with_body.find("\n{")
-        yield Function(f"{crate}::{found.group(1)}", with_body[: end if end >= 0 else with_body.find("{")])
+        end = end if end >= 0 else with_body.find("{")
+        is_for_c = found.group(1) == 'extern "C" ' and source[: found.start()].endswith("\n#[unsafe(no_mangle)]\n")
+        yield Function(f"{crate}::{found.group(2)}", with_body[:end], with_body[end:].lstrip("\n")[1:], is_for_c)
+
+
+def imported(source: str) -> Iterator[str]:
+    """The words that a source text imports for its clauses, each with the path that it is from."""
+    for path, words in IMPORT.findall(source):
+        yield from (f"{path}{' '.join(word.split())}" for word in words.rstrip(", \n").split(","))
+
+
+def crate_of(name: str, sources: List[str]) -> Crate:
+    """A crate of these source texts."""
+    functions = [function for source in sources for function in functions_of(name, source)]
+    return Crate(functions, {word for source in sources for word in imported(source)})
 
 
 def read_tree(root: Path) -> Tree:
     """What the repository has."""
-    functions: List[Function] = []
+    sources: Dict[str, List[str]] = {}
     for source in sorted(root.glob("crates/*/src/**/*.rt")):
         crate = source.relative_to(root / "crates").parts[0]
-        functions.extend(functions_of(crate, source.read_text(encoding="utf-8")))
+        sources.setdefault(crate, []).append(source.read_text(encoding="utf-8"))
     proofs = sorted(root.glob("crates/promises/proofs/*.antt"))
     return Tree(
-        functions,
+        {name: crate_of(name, texts) for name, texts in sources.items()},
+        STATIC.findall((root / "crates.txt").read_text(encoding="utf-8")),
         (root / "docs" / "PROMISES.md").read_text(encoding="utf-8"),
         [proof.read_text(encoding="utf-8") for proof in proofs],
     )
 
 
 def says(theorems: str, alias: str, what: str) -> bool:
-    """Whether the theorem `ALIAS-one` says this of what the contract tells. Its statement ends where a line starts."""
-    statement = re.search(rf"^pub {re.escape(alias)}-one :.*\n(?:[ \t].*\n)*", theorems, re.MULTILINE)
+    """Whether the theorem `ALIAS_one` says this of what the contract tells. Its statement ends where a line starts."""
+    statement = re.search(rf"^pub {re.escape(alias)}_one :.*\n(?:[ \t].*\n)*", theorems, re.MULTILINE)
     said = statement.group().split() if statement else []
-    return what in said and f"{alias}-reads.Learnt" in said
+    return what in said and f"{alias}_reads.Learnt" in said
 
 
 def theorem_for(function: Function) -> str:
@@ -82,33 +130,112 @@ def theorems_of(function: Function, files: List[str]) -> int:
     )
 
 
-def complaints(tree: Tree) -> List[str]:
-    """What is wrong, one line each."""
-    wrong: List[str] = []
+# ---- calls for C
+
+
+def declared(function: Function) -> str:
+    """The name, parameters, result and clauses of a function, whatever the layout."""
+    plain = " ".join(PUBLIC.sub(r"fn \2", function.head).split())
+    return plain.replace("( ", "(").replace(", )", ")")
+
+
+def call_of(function: Function) -> str:
+    """The call of a function with its own parameters."""
+    parameters = function.head[function.head.find("(") + 1 : function.head.find(")")]
+    return f"{function.name}({','.join(PARAMETER.findall(parameters))})"
+
+
+def is_call_of(function: Function, body: str) -> bool:
+    """Whether a body is that call and nothing else."""
+    return "".join(body.split()).replace(",)", ")") == call_of(function)
+
+
+def wrong_calls(library: str, tree: Tree) -> Iterator[str]:
+    """What is wrong with a library's calls for C."""
+    ours = tree.crates.get(library, Crate([], set()))
+    calls = tree.crates.get(calls_of(library), Crate([], set()))
+    by_name = {function.name: function for function in ours.functions}
+    named = [f"{library}::{call.name.partition('::')[2]}" for call in calls.functions]
+    for call, name in zip(calls.functions, named):
+        function = by_name.get(name)
+        if not call.is_for_c:
+            yield f"{call.name} is no call for C"
+        if function is None:
+            yield f"{call.name} is no function of {library}"
+            continue
+        if declared(call) != declared(function):
+            yield f"{call.name} is not declared as {function.name}"
+        if not is_call_of(function, call.body):
+            yield f"{call.name} does not only call {function.name}"
+    for name in by_name:
+        if named.count(name) != 1:
+            yield f"{name} has {named.count(name)} calls for C"
+    if not calls.imports <= ours.imports:
+        yield f"{calls_of(library)} imports {' '.join(sorted(calls.imports - ours.imports))} and {library} does not"
+
+
+# ---- all
+
+
+def wrong_promises(tree: Tree) -> Iterator[str]:
+    """What is wrong with the public functions, one line each."""
     rows = ROW.findall(tree.table)
     names = [function.name for function in tree.functions]
     for function in tree.functions:
-        if "ensures {" not in function.head:
-            wrong.append(f"{function.name} has no ensures")
-        if "requires {" in function.head:
-            wrong.append(f"{function.name} has a requires")
+        if not ENSURES.search(function.head):
+            yield f"{function.name} has no ensures"
+        if REQUIRES.search(function.head):
+            yield f"{function.name} has a requires"
         if rows.count(function.name) != 1:
-            wrong.append(f"{function.name} has {rows.count(function.name)} rows in docs/PROMISES.md")
+            yield f"{function.name} has {rows.count(function.name)} rows in docs/PROMISES.md"
         if (proved := theorems_of(function, tree.theorems)) != 1:
-            wrong.append(f"{function.name} has {proved} theorems in crates/promises")
-    wrong.extend(f"docs/PROMISES.md has {row}, which is no public function" for row in rows if row not in names)
-    return wrong
+            yield f"{function.name} has {proved} theorems in crates/promises"
+    yield from (f"docs/PROMISES.md has {row}, which is no public function" for row in rows if row not in names)
 
 
-SOURCE = "pub fn f(x: u8) -> u8\n    ensures { r }\n{\n    x\n}\n"
+def complaints(tree: Tree) -> List[str]:
+    """All that is wrong."""
+    return [*wrong_promises(tree), *(wrong for library in tree.static for wrong in wrong_calls(library, tree))]
+
+
+def checks(tree: Tree) -> int:
+    """How many rules are held."""
+    of_functions = RULES * len(tree.functions)
+    of_calls = sum(
+        RULES * len(tree.crates[calls_of(library)].functions) + len(tree.crates[library].functions) + 1 for library in tree.static
+    )
+    return of_functions + of_calls
+
+
+SOURCE = "ghost use A.{q, r};\n\npub fn f(x: u8) -> u8\n    ensures { r }\n{\n    x\n}\n"
 PRIVATE = "\nfn g(x: u8) -> u8\n    ensures { r }\n{\n    x\n}\n"
 TABLE = "| `a::f` | x |\n"
-THEOREM_OF_F = "use Rattle·a.proofs.f.Reads as f-reads\npub f-one : OneResult\n    f-reads.Learnt\nf-one p q = p\n"
+THEOREM_OF_F = "use Rattle.a.proofs.f.Reads as f_reads\npub f_one : OneResult\n    f_reads.Learnt\nf_one p q = p\n"
+THEOREM_OF_G = "use Rattle.a.proofs.g.Reads as g_reads\npub g_one : OneResult g_reads.Learnt\ng_one p q = p\n"
+CALL = """ghost use A.{r};
+
+#[unsafe(no_mangle)]
+pub extern "C" fn f(
+    x: u8,
+) -> u8
+    ensures { r }
+{
+    a::f(
+        x,
+    )
+}
+"""
 
 
-def sample(source: str = SOURCE, table: str = TABLE, theorems: str = THEOREM_OF_F) -> Tree:
-    """A tree of one crate `a`, right but for what is given."""
-    return Tree(list(functions_of("a", source)), table, [theorems, "pub g-one : OneResult f-reads.Learnt\n"])
+def sample(source: str = SOURCE, table: str = TABLE, theorems: str = THEOREM_OF_F, calls: str = CALL) -> Tree:
+    """A tree of one crate `a` with its calls for C, right but for what is given."""
+    crates = {"a": crate_of("a", [source]), "a_c": crate_of("a_c", [calls])}
+    return Tree(crates, ["a"], table, [theorems, "pub g_one : OneResult f_reads.Learnt\n"])
+
+
+def alone(source: str, **texts: str) -> Tree:
+    """One with no calls for C."""
+    return sample(source, **texts)._replace(static=[], crates={"a": crate_of("a", [source])})
 
 
 class Sample(NamedTuple):
@@ -118,21 +245,42 @@ class Sample(NamedTuple):
     tree: Tree
 
 
+WITH_G = f"{SOURCE}{PRIVATE.replace('fn', 'pub fn')}"
 SAMPLES: List[Sample] = [
-    Sample("a::f has no ensures", sample(SOURCE.replace("ensures", "// ensures:"))),
-    Sample("a::f has no ensures", sample("pub fn f(x: u8) -> u8 {\n    x\n}\n" + PRIVATE)),
-    Sample("a::f has no ensures", sample('    pub unsafe extern "C" fn f(x: u8) {\n    }\n')),
-    Sample("a::f has a requires", sample(SOURCE.replace("    ensures", "    requires { p }\n    ensures"))),
+    Sample("a::f has no ensures", alone(SOURCE.replace("ensures", "// ensures:"))),
+    Sample("a::f has no ensures", alone("pub fn f(x: u8) -> u8 {\n    x\n}\n" + PRIVATE)),
+    Sample("a::f has no ensures", alone('    pub unsafe extern "C" fn f(x: u8) {\n    }\n')),
+    Sample("a::f has a requires", alone(SOURCE.replace("    ensures", "    requires { p }\n    ensures"))),
+    Sample("a::f has a requires", alone(SOURCE.replace("    ensures", "    requires named { p }\n    ensures"))),
     Sample("a::f has 0 rows", sample(table="")),
     Sample("a::f has 2 rows", sample(table=TABLE * 2)),
     Sample("a::f has 0 theorems", sample(theorems="")),
-    Sample("a::f has 0 theorems", sample(theorems=THEOREM_OF_F.replace("f-one", "g-one"))),
+    Sample("a::f has 0 theorems", sample(theorems=THEOREM_OF_F.replace("f_one", "g_one"))),
     Sample("a::f has 0 theorems", sample(theorems=THEOREM_OF_F.replace("OneResult", "Anything"))),
-    Sample("a::f has 0 theorems", sample(theorems=THEOREM_OF_F.replace("    f-reads", "    g-reads"))),
-    Sample("a::f has 0 theorems", sample(SOURCE.replace("x: u8", "x: &mut [u8]"))),
-    Sample("a::f has 0 theorems", sample(SOURCE.replace("-> u8", "-> &[u8]"))),
+    Sample("a::f has 0 theorems", sample(theorems=THEOREM_OF_F.replace("    f_reads", "    g_reads"))),
+    Sample("a::f has 0 theorems", alone(SOURCE.replace("x: u8", "x: &mut [u8]"))),
+    Sample("a::f has 0 theorems", alone(SOURCE.replace("-> u8", "-> &[u8]"))),
     Sample("a::f has 2 theorems", sample(theorems=THEOREM_OF_F * 2)),
-    Sample("a::f, which is no public function", sample(source=PRIVATE)),
+    Sample("a::f, which is no public function", alone(source=PRIVATE)),
+    Sample("a_c::f, which is no public function", sample(table=TABLE + "| `a_c::f` | x |\n")),
+    Sample("a_c::f is no call for C", sample(calls=CALL.replace("#[unsafe(no_mangle)]\n", ""))),
+    Sample("a_c::f is no call for C", sample(calls=CALL.replace('extern "C" ', ""))),
+    Sample("a_c::g is no function of a", sample(calls=CALL + CALL[CALL.index("\n") :].replace(" f(", " g("))),
+    Sample("a_c::f is not declared as a::f", sample(calls=CALL.replace("x: u8", "x: u16"))),
+    Sample("a_c::f is not declared as a::f", sample(calls=CALL.replace("x: u8", "y: u8"))),
+    Sample("a_c::f is not declared as a::f", sample(calls=CALL.replace("-> u8", "-> u16"))),
+    Sample("a_c::f is not declared as a::f", sample(calls=CALL.replace("ensures { r }", "ensures { s }"))),
+    Sample("a_c::f is not declared as a::f", sample(calls=CALL.replace("    ensures { r }\n", ""))),
+    Sample("a_c::f is not declared as a::f", sample(calls=CALL.replace("    ensures", "    requires { p }\n    ensures"))),
+    Sample("a_c::f does not only call a::f", sample(calls=CALL.replace("a::f(", "b::f("))),
+    Sample("a_c::f does not only call a::f", sample(calls=CALL.replace("a::f(", "x + a::f("))),
+    Sample("a_c::f does not only call a::f", sample(calls=CALL.replace("    a::f(", "    let x = 0;\n    a::f("))),
+    Sample("a_c::f does not only call a::f", sample(calls=CALL.replace("        x,", "        x + 1,"))),
+    Sample("a::g has 0 calls for C", sample(WITH_G, f"{TABLE}| `a::g` | x |\n", THEOREM_OF_F + THEOREM_OF_G)),
+    Sample("a::f has 2 calls for C", sample(calls=CALL + CALL)),
+    Sample("a_c imports B.r and", sample(calls=CALL.replace("A.{r}", "B.{r}"))),
+    Sample("a_c imports A.s as r and", sample(calls=CALL.replace("A.{r}", "A.{s as r}"))),
+    Sample("a_c imports B.r and", sample(calls=CALL.replace("A.{r}", "B.r"))),
 ]
 
 
@@ -144,16 +292,16 @@ def own_faults() -> List[str]:
         if [complaint in line for line in complaints(tree)] != [True]
     ]
     if complaints(sample(SOURCE + PRIVATE)):
-        wrong.append("the right sample was found wrong")
+        wrong.append(f"the right sample was found wrong: {complaints(sample(SOURCE + PRIVATE))}")
     return wrong
 
 
 def main() -> int:
     tree = read_tree(Path(__file__).resolve().parent.parent)
     wrong = own_faults() + complaints(tree)
-    if not tree.functions:
-        wrong.append("no public function was found")
-    return ended(4 * len(tree.functions) + len(SAMPLES) + 2, wrong)
+    if not tree.functions or not tree.static:
+        wrong.append("no public function was found, or no call for C")
+    return ended(checks(tree) + len(SAMPLES) + 2, wrong)
 
 
 if __name__ == "__main__":
