@@ -31,10 +31,10 @@ OLD: Dict[str, bytes] = {
     "crates/aa/src/deep/x.rt": lines("x", 1, 3),
     "crates/a/specs/Lib.antt": lines("specs", 1, 5),
     "crates/a/specs/deep/D.antt": lines("D", 1, 8),
-    "crates/a/proofs/Lib.antt": lines("proofs", 1, 6),
+    "crates/a/proofs/Answers.antt": lines("proofs", 1, 6),
     "crates/a/proofs/Law.antt": LAW,
     "crates/a/proofs/deep/Law.antt": lines("deep law", 1, 11),
-    "crates/a/proofs/f/Proof.antt": PROOF,
+    "crates/a/proofs/f/Invariants.antt": PROOF,
     "crates/a/proofs/f/Proof/Part.antt": lines("part", 1, 2),
     "crates/a/must-fail/wrong.edit": lines("wrong", 1, 4),
     "crates/a/must-fail/kept.edit": lines("kept", 1, 3),
@@ -58,10 +58,10 @@ NEW: Dict[str, bytes] = {
     "crates/aa/src/deep/x.rt": OLD["crates/aa/src/deep/x.rt"],
     "crates/a/specs/Lib.antt": OLD["crates/a/specs/Lib.antt"],
     "crates/b/specs/Lib.antt": lines("b", 1, 4),  # added
-    "crates/a/proofs/Lib.antt": OLD["crates/a/proofs/Lib.antt"],
+    "crates/a/proofs/Answers.antt": OLD["crates/a/proofs/Answers.antt"],
     "crates/b/specs/Law.antt": LAW.replace(b"line 7 ", b"line 7, another ") + lines("more", 1, 2),  # 3 added, 1 removed
     "crates/a/proofs/deep/Law.antt": OLD["crates/a/proofs/deep/Law.antt"],
-    "crates/b/proofs/m/f/Proof.antt": lines("proof", 1, 17) + lines("end", 1, 1),  # 1 added, 3 removed
+    "crates/b/proofs/m/f/Answers.antt": lines("proof", 1, 17) + lines("end", 1, 1),  # 1 added, 3 removed
     "crates/a/proofs/f/Proof/Part.antt": OLD["crates/a/proofs/f/Proof/Part.antt"],
     "crates/b/must-fail/other.edit": lines("other", 1, 7),  # added
     "crates/a/must-fail/kept.edit": OLD["crates/a/must-fail/kept.edit"],
