@@ -74,10 +74,10 @@ def of_code(code: str) -> Iterator[Check]:
 
 def of_definition(definition: str) -> Iterator[Check]:
     """The quotients stand where the sheet says."""
-    steps = re.search(r"^lnSteps s \(suc k\) H = real 1 ⊘ real \(2 \* k \+ 1\) ", definition, re.MULTILINE)
-    yield Check("lnSteps has no 1 ⊘ (2·k + 1)", steps is not None)
-    work = re.search(r"^lnWork m e =\n(?: .*\n)* .*lnSteps s 10 \(real 1 ⊘ real 21\)", definition, re.MULTILINE)
-    yield Check("lnWork has no 1 ⊘ 21 before ten steps", work is not None)
+    steps = re.search(r"^ln_steps s \(suc k\) H = real 1 ⊘ real \(2 \* k \+ 1\) ", definition, re.MULTILINE)
+    yield Check("ln_steps has no 1 ⊘ (2·k + 1)", steps is not None)
+    work = re.search(r"^ln_work m e =\n(?: .*\n)* .*ln_steps s 10 \(real 1 ⊘ real 21\)", definition, re.MULTILINE)
+    yield Check("ln_work has no 1 ⊘ 21 before ten steps", work is not None)
 
 
 def by_hand(x: float, constants: Sequence[Any]) -> List[Any]:
@@ -190,9 +190,9 @@ SAMPLES: List[Sample] = [
     Sample("code", FIFTH, "", "not those of n = 1, 3, .. 21"),
     Sample("code", "h = reciprocals[k] + s * h", "h = 1.0 / by + s * h", "the code's steps divide"),
     Sample("code", "fn steps(", "fn turns(", "the code has no function steps"),
-    Sample("definition", "real (2 * k + 1)", "real (2 * k + 3)", "lnSteps has no"),
-    Sample("definition", "real 1 ⊘ real 21", "real 1 ⊘ real 23", "lnWork has no"),
-    Sample("definition", "lnSteps s 10", "lnSteps s 9", "lnWork has no"),
+    Sample("definition", "real (2 * k + 1)", "real (2 * k + 3)", "ln_steps has no"),
+    Sample("definition", "real 1 ⊘ real 21", "real 1 ⊘ real 23", "ln_work has no"),
+    Sample("definition", "ln_steps s 10", "ln_steps s 9", "ln_work has no"),
     Sample("page", "3fc2492492492492", "3fc2492492492493", "the page has no line '| 7 "),
     Sample("page", "| 0.2 |", "| 0.25 |", "the page has no line '| 5 "),
     Sample("page", "`RECIPROCALS[4]`", "`RECIPROCALS[5]`", "the page has no line '| 9 "),
