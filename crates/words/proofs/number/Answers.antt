@@ -2,6 +2,7 @@
 use mathlib.Core.Path.{◌≡◌, refl, sym, ◌∙◌}
 use mathlib.Core.Bool.{true, false}
 use Prim.Native.Nat.{ℕ, ◌%◌, ◌≤◌, ◌<◌}
+use native.Mathlib.Omega.{arith}
 use borrow.Author.Tests.{lt-ltb, le-ltb}
 use lib.Ieee.{Float, nan, inf, fin, binary64, is_nan, nan_bits, of_bits, div}
 use lib.Ieee.Bits.{nan_bits_is, nan_bits_above}
@@ -25,7 +26,7 @@ is_nan_lem : (w : ℕ) → 9218868437227405312 < w % 9223372036854775808 → of_
 is_nan_lem w h = only_nan (of_bits binary64 w) (sym (nan_bits_is binary64 w) ∙ nan_bits_above binary64 w ∙ lt-ltb _ _ h)
 
 pub float_from_bits-result : goal.float_from_bits-result
-float_from_bits-result c = rw (not_nan c.args.w c.if-magnitude-le9218868437227405312.true) tt
+float_from_bits-result c = rw (not_nan c.args.w (omega arith)) tt
 
 pub returns : goal.returns
-returns c = zero_over_zero ∙ sym (is_nan_lem c.args.w c.if-magnitude-le9218868437227405312.false)
+returns c = zero_over_zero ∙ sym (is_nan_lem c.args.w (omega arith))

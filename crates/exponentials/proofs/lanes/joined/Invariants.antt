@@ -13,7 +13,7 @@ abbrev pub decreases-loop-i : goal.decreases-loop-i
 decreases-loop-i l = 7 - l.i
 
 abbrev pub invariant-loop-i-2 : goal.invariant-loop-i-2
-invariant-loop-i-2 l = (7 ≤ l.i) × (l.i ≤ 14) × Filled (take 7 l.initial.whole ++ l.second) l.i l.whole
+invariant-loop-i-2 l = (7 ≤ l.i) × (l.i ≤ 14) × Filled (take 7 l.initial.whole ++ l.fn.second) l.i l.whole
 
 abbrev pub decreases-loop-i-2 : goal.decreases-loop-i-2
 decreases-loop-i-2 l = 14 - l.i
