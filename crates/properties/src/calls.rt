@@ -26,7 +26,8 @@ fn stability_permit(stability: Stability) -> Permit
     let q = stability.q;
     if finite(v) {
         if both_finite(k, q) {
-            if q <= 0.0 {
+            let unstable = q <= 0.0;
+            if unstable {
                 return Permit::Denied(Refusal::NotStable);
             }
             if v <= 0.0 {

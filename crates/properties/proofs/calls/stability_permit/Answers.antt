@@ -4,10 +4,10 @@ use Rattle.arithmetic.proofs.Literals.{lit_0}
 use Rattle.properties.specs.Calls.{stable_of}
 use Rattle.properties.proofs.calls.stability_permit.Goals as goal
 
-pub returns-then-q : goal.returns-then-q
+pub returns-then-unstable : goal.returns-then-unstable
 unfolding stable_of
-returns-then-q c =
-    simp (sym c.finite.ensures ∙ c.if-finite.true, sym c.both_finite.ensures ∙ c.if-both_finite.true, simp lit_0 at c.if-q.true)
+returns-then-unstable c =
+    simp (sym c.finite.ensures ∙ c.if-finite.true, sym c.both_finite.ensures ∙ c.if-both_finite.true, simp lit_0 at c.if-unstable.true)
 
 pub returns-then-v : goal.returns-then-v
 unfolding stable_of
@@ -15,7 +15,7 @@ returns-then-v c =
     simp (
       sym c.finite.ensures ∙ c.if-finite.true,
       sym c.both_finite.ensures ∙ c.if-both_finite.true,
-      simp lit_0 at c.if-q.false,
+      simp lit_0 at c.if-unstable.false,
       simp lit_0 at c.if-v.true,
     )
 
@@ -25,7 +25,7 @@ returns-then-both_finite c =
     simp (
       sym c.finite.ensures ∙ c.if-finite.true,
       sym c.both_finite.ensures ∙ c.if-both_finite.true,
-      simp lit_0 at c.if-q.false,
+      simp lit_0 at c.if-unstable.false,
       simp lit_0 at c.if-v.false,
     )
 
