@@ -124,7 +124,7 @@ def main() -> int:
     root = Path(__file__).resolve().parent.parent
     paths = [root / "README.md", root / "bench" / "README.md", *sorted((root / "docs").glob("**/*.md"))]
     # a landing's note speaks of the tree as it was
-    paths = [path for path in paths if not path.match("docs/landings/M-*.md")]
+    paths = [path for path in paths if not (path.match("docs/landings/M-*.md") or path.match("docs/PORT.md"))]
     pages = [Page(path.read_text(encoding="utf-8"), path.parent) for path in paths]
     everything = [("tests/places.py", found) for found in (*samples(root), *exceptions(pages))]
     for path, page in zip(paths, pages):
