@@ -188,7 +188,7 @@ SAMPLES: List[Sample] = [
     Sample("code", "RECIPROCALS: [", "INVERSES: [", "the code has no table"),
     Sample("code", THIRD + FIFTH, FIFTH + THIRD, "not those of n = 1, 3, .. 21"),
     Sample("code", FIFTH, "", "not those of n = 1, 3, .. 21"),
-    Sample("code", "h = reciprocals[k] + s * h", "h = 1.0 / by + s * h", "the code's steps divide"),
+    Sample("code", "h = RECIPROCALS[k] + s * h", "h = 1.0 / by + s * h", "the code's steps divide"),
     Sample("code", "fn steps(", "fn turns(", "the code has no function steps"),
     Sample("definition", "real (2 * k + 1)", "real (2 * k + 3)", "ln_steps has no"),
     Sample("definition", "real 1 ⊘ real 21", "real 1 ⊘ real 23", "ln_work has no"),

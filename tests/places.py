@@ -123,8 +123,9 @@ def exceptions(pages: List[Page]) -> Iterator[Found]:
 def main() -> int:
     root = Path(__file__).resolve().parent.parent
     paths = [root / "README.md", root / "bench" / "README.md", *sorted((root / "docs").glob("**/*.md"))]
-    # a landing's note speaks of the tree as it was
-    paths = [path for path in paths if not (path.match("docs/landings/M-*.md") or path.match("docs/PORT.md"))]
+    # a landing's note speaks of the tree as it was, and so do the port's page and the design pass's, which have old beside new
+    history = ("docs/landings/M-*.md", "docs/PORT.md", "docs/DESIGN-PASS.md")
+    paths = [path for path in paths if not any(path.match(page) for page in history)]
     pages = [Page(path.read_text(encoding="utf-8"), path.parent) for path in paths]
     everything = [("tests/places.py", found) for found in (*samples(root), *exceptions(pages))]
     for path, page in zip(paths, pages):

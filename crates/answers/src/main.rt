@@ -4,23 +4,8 @@
 // it does where the lines cannot be written.
 #![tactic(auto)]
 
-ghost use Rattle.std.specs.Prelude.{◌≡◌, ◌≤◌, length};
-
 use std::fs::File;
-use std::io::{self, ErrorKind, Read, Write};
-
-// Room for 3,640 records, and for their lines.
-fn record_block() -> [u8; 65520]
-    ensures { 65520 ≡ length result }
-{
-    [0; 65520]
-}
-
-fn line_block() -> [u8; 233024]
-    ensures { 233024 ≡ length result }
-{
-    [0; 233024]
-}
+use std::io::{self, ErrorKind, Write};
 
 // The system's words for a failure, without the number that follows them.
 fn words(told: &str) -> &str {
@@ -36,7 +21,8 @@ fn tell(rt: &HostRuntime, what: &str, e: &io::Error) -> io::Result<()> {
     eprintln!(rt; "{what}: {}", words(told.as_str()))
 }
 
-// Prints a text; false where it could not be written, which is told.
+// Prints a text; false where it could not be written, which is told. Not that error itself, here and below: it is told where it comes up, and the
+// program ends well.
 fn print(rt: &HostRuntime, text: &[u8]) -> io::Result<bool> {
     match rt.stdout().write_all(text) {
         Ok(()) => Ok(true),
@@ -47,46 +33,23 @@ fn print(rt: &HostRuntime, text: &[u8]) -> io::Result<bool> {
     }
 }
 
-// Reads on until the block is full or the file ends; n counts its bytes, also where the file could not be read.
-fn read_block(file: &mut File, block: &mut [u8], n: &mut usize) -> io::Result<()>
-    requires { n.old ≤ length block.old }
-    ensures { n.new ≤ length block.old }
-{
-    for _ in 0..u64::MAX {
-        if *n >= block.len() {
-            return Ok(());
-        }
-        match file.read(&mut block[*n..]) {
-            Ok(0) => return Ok(()),
-            Ok(more) => *n += more,
-            Err(e) => {
-                if e.kind() != ErrorKind::Interrupted {
-                    return Err(e);
-                }
-            }
-        }
-    }
-    Ok(())
-}
-
 // Prints the lines of one block, its first record numbered first; false where the file ended or could not be read, which is told, or
-// the lines could not be written.
+// the lines could not be written. The blocks, fixed memory with a count of what they hold, have room for 3,640 records, and for their lines.
 fn block(rt: &HostRuntime, file: &mut File, first: u64) -> io::Result<bool> {
-    let mut input = record_block();
-    let mut out = line_block();
-    let mut n = 0;
-    let read = read_block(file, &mut input, &mut n);
+    let mut input = [0; 65520];
+    let mut out = [0; 233024];
+    let (n, read) = blocks::fill(file, &mut input);
     let end = lines::put_lines(&input[..n], first, &mut out);
     let written = print(rt, &out[..end])?;
     if let Err(e) = read {
         tell(rt, "states.rec", &e)?;
         return Ok(false);
     }
-    Ok(written && n == 65520)
+    Ok(written && n == input.len())
 }
 
 // No file is as long as 2⁴⁰ blocks; a loop has to end.
-fn blocks(rt: &HostRuntime, file: &mut File) -> io::Result<()> {
+fn all_blocks(rt: &HostRuntime, file: &mut File) -> io::Result<()> {
     for turn in 0..1099511627776u64 {
         if !block(rt, file, 1 + 3640 * turn)? {
             return Ok(());
@@ -101,7 +64,7 @@ fn main(rt: HostRuntime) -> io::Result<()> {
         return Ok(());
     }
     match File::open(&rt, "states.rec") {
-        Ok(mut file) => blocks(&rt, &mut file),
+        Ok(mut file) => all_blocks(&rt, &mut file),
         Err(e) => {
             if e.kind() == ErrorKind::NotFound {
                 return Ok(());

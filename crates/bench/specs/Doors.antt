@@ -1,10 +1,9 @@
 -- What the doors take for a fluid and a side, and what they hand to C: a number for an answer or a search, and a total over a
 -- list of densities.
-use Rattle.std.specs.Prelude.{cond, List, ℕ, zero, suc, eqb, Float, length, get_or}
+use Rattle.std.specs.Prelude.{cond, List, ℕ, zero, suc, eqb, Float, length, get_or, Result, Ok, Err}
 use Rattle.std.specs.Float.{nan, binary64}
 use Rattle.std.specs.Float.Ieee.{add}
-use Rattle.refusals.specs.declared.Answer.{Answer}
-use Rattle.refusals.specs.declared.Answer.TheVariants.{Number, Refused}
+use Rattle.refusals.specs.Answer.{Answer}
 use Rattle.arithmetic.specs.Checked.{real}
 use Rattle.refusals.specs.declared.Refusal.{Refusal}
 use Rattle.fluids.specs.declared.Fluid.{Fluid}
@@ -15,27 +14,26 @@ use Rattle.density.specs.Calls.{plain_by, quick_by}
 use Rattle.search.specs.declared.Side.{Side}
 use Rattle.search.specs.declared.Side.TheVariants.{FromBelow, FromAbove}
 use Rattle.search.specs.declared.Found.{Found}
-use Rattle.search.specs.declared.Found.TheVariants.{State}
 
 -- the number of an answer, and `nan` where it is a refusal
 abbrev pub number_of : Answer → Float
-number_of (Number x) = x
-number_of (Refused r) = nan
+number_of (Ok x) = x
+number_of (Err r) = nan
 
 -- the density that a search found, and `nan` where it is a refusal
-abbrev pub found_density : Found → Float
-found_density (State density word) = density
-found_density (Found.Refused r) = nan
+abbrev pub found_density : Result Found Refusal → Float
+found_density (Ok found) = found.density
+found_density (Err r) = nan
 
 -- 0 is from below, any other number from above
 abbrev pub side_of : ℕ → Side
 side_of n = cond (eqb n 0) FromBelow FromAbove
 
 -- the searches as the doors ask them: the fluid and the side each by its number
-abbrev pub plain_from : ℕ → Float → Float → ℕ → ℕ → Found
+abbrev pub plain_from : ℕ → Float → Float → ℕ → ℕ → Result Found Refusal
 plain_from number t P c side = plain_by number t P c (side_of side)
 
-abbrev pub quick_from : ℕ → Float → Float → ℕ → ℕ → List Float → List Float → Found
+abbrev pub quick_from : ℕ → Float → Float → ℕ → ℕ → List Float → List Float → Result Found Refusal
 quick_from number t P c side greatest least = quick_by number t P c (side_of side) greatest least
 
 -- the sum of f over the first i entries, from 0 and in their order

@@ -1,28 +1,28 @@
-// The functions that bench/ times and the tests call, behind C's calling convention. Those on a fluid take its number first.
+// The functions that bench/ times and the tests call, behind C's calling convention. Those on a fluid take its number first; each has the name and
+// the arguments that C calls it by, lists and counts side by side, and a NaN where C has no Result.
 #![tactic(auto)]
 
-ghost use Rattle.std.specs.Prelude.{◌≡◌};
+ghost use Rattle.std.specs.Prelude.{◌≡◌, Err};
 ghost use Rattle.exponentials.specs.Exp.{exp_of};
 ghost use Rattle.logarithms.specs.Ln.{ln_of};
 ghost use Rattle.roots.specs.Root.{root_of};
-ghost use Rattle.refusals.specs.declared.Answer.TheVariants.{Refused};
+ghost use Rattle.refusals.specs.Code.{answer_code_of};
 ghost use Rattle.inputs.specs.Numbered.{by_number};
 ghost use Rattle.properties.specs.Calls.{pressure_of, entropy_of, isobaric_of, sound_speed_of};
 ghost use Rattle.preparation.specs.Prepare.{prepare_by, greatest_by, least_by};
-ghost use Rattle.outcomes.specs.Codes.{found_code_of, prepared_code_of};
 ghost use Rattle.outcomes.specs.Parts.{found_word_of};
 ghost use Rattle.bench.specs.Doors.{number_of, found_density, side_of, plain_from, quick_from, total_of, isotherm_of};
 
 use density::{plain, quick};
 use equation::pressure_at;
 use exponentials::exp;
-use fluids::{Fluid, Named, fluid_numbered};
+use fluids::Fluid;
 use kept::keep;
 use logarithms::ln;
-use outcomes::{found_code, found_word, prepared_code};
+use outcomes::{found_answer, found_word};
 use preparation::prepare;
 use properties::{entropy, isobaric_heat_capacity, pressure, sound_speed};
-use refusals::Answer;
+use refusals::{Answer, Refusal, answer_code};
 use roots::root;
 use search::{Found, Side};
 
@@ -52,32 +52,29 @@ pub fn bench_root(x: f64) -> f64
 fn number_or_nan(answer: Answer) -> f64
     ensures { result ≡ number_of answer }
 {
-    match answer {
-        Answer::Number(x) => x,
-        Answer::Refused(_) => 0.0 / 0.0,
-    }
+    answer.unwrap_or(f64::NAN)
 }
 
 pub fn bench_pressure(number: u32, t: f64, rho: f64) -> f64
-    ensures { result ≡ number_of (by_number Refused number (λ F. pressure_of F t rho)) }
+    ensures { result ≡ number_of (by_number Err number (λ F. pressure_of F t rho)) }
 {
     number_or_nan(pressure(number, t, rho))
 }
 
 pub fn bench_entropy(number: u32, t: f64, rho: f64) -> f64
-    ensures { result ≡ number_of (by_number Refused number (λ F. entropy_of F t rho)) }
+    ensures { result ≡ number_of (by_number Err number (λ F. entropy_of F t rho)) }
 {
     number_or_nan(entropy(number, t, rho))
 }
 
 pub fn bench_isobaric(number: u32, t: f64, rho: f64) -> f64
-    ensures { result ≡ number_of (by_number Refused number (λ F. isobaric_of F t rho)) }
+    ensures { result ≡ number_of (by_number Err number (λ F. isobaric_of F t rho)) }
 {
     number_or_nan(isobaric_heat_capacity(number, t, rho))
 }
 
 pub fn bench_sound_speed(number: u32, t: f64, rho: f64) -> f64
-    ensures { result ≡ number_of (by_number Refused number (λ F. sound_speed_of F t rho)) }
+    ensures { result ≡ number_of (by_number Err number (λ F. sound_speed_of F t rho)) }
 {
     number_or_nan(sound_speed(number, t, rho))
 }
@@ -88,11 +85,8 @@ fn total_of(fluid: Fluid, t: f64, densities: &[f64]) -> f64
 {
     let kept = keep(fluid, t);
     let mut total = 0.0;
-    let mut i: usize = 0;
-    while i < densities.len() {
-        let p = pressure_at(kept, densities[i]);
-        total = total + p;
-        i += 1;
+    for rho in densities {
+        total += pressure_at(kept, *rho);
     }
     total
 }
@@ -101,23 +95,19 @@ fn total_of(fluid: Fluid, t: f64, densities: &[f64]) -> f64
 pub fn bench_isotherm(number: u32, t: f64, densities: &[f64]) -> f64
     ensures { result ≡ isotherm_of number t densities.now }
 {
-    let named = fluid_numbered(number);
-    match named {
-        Named::Known(fluid) => total_of(fluid, t, densities),
-        Named::Unknown => 0.0 / 0.0,
+    match Fluid::try_from(number) {
+        Ok(fluid) => total_of(fluid, t, densities),
+        Err(_) => f64::NAN,
     }
 }
 
 // ---- the searches
 
 // The density that was found, and a NaN where it is a refusal.
-fn found_density(found: Found) -> f64
+fn found_density(found: Result<Found, Refusal>) -> f64
     ensures { result ≡ found_density found }
 {
-    match found {
-        Found::State(rho, _) => rho,
-        Found::Refused(_) => 0.0 / 0.0,
-    }
+    number_or_nan(found_answer(found))
 }
 
 // C has no `Side`: 0 is from below, any other number from above.
@@ -138,9 +128,9 @@ pub fn bench_plain(number: u32, t: f64, p: f64, c: usize, side: u32) -> f64
 }
 
 pub fn bench_plain_code(number: u32, t: f64, p: f64, c: usize, side: u32) -> u32
-    ensures { result ≡ found_code_of (plain_from number t p c side) }
+    ensures { result ≡ answer_code_of (plain_from number t p c side) }
 {
-    found_code(plain(number, t, p, c, side_of(side)))
+    answer_code(plain(number, t, p, c, side_of(side)))
 }
 
 pub fn bench_plain_word(number: u32, t: f64, p: f64, c: usize, side: u32) -> u64
@@ -151,11 +141,11 @@ pub fn bench_plain_word(number: u32, t: f64, p: f64, c: usize, side: u32) -> u64
 
 // 0 where the lists are ready, else the refusal's number.
 pub fn bench_prepare(number: u32, t: f64, c: usize, greatest: &mut [f64], least: &mut [f64]) -> u32
-    ensures { (result ≡ prepared_code_of (prepare_by number t c greatest.old least.old))
+    ensures { (result ≡ answer_code_of (prepare_by number t c greatest.old least.old))
         × (greatest.new ≡ greatest_by number t c greatest.old least.old)
         × (least.new ≡ least_by number t c greatest.old least.old) }
 {
-    prepared_code(prepare(number, t, c, greatest, least))
+    answer_code(prepare(number, t, c, greatest, least))
 }
 
 pub fn bench_quick(
@@ -181,9 +171,9 @@ pub fn bench_quick_code(
     greatest: &[f64],
     least: &[f64],
 ) -> u32
-    ensures { result ≡ found_code_of (quick_from number t p c side greatest.now least.now) }
+    ensures { result ≡ answer_code_of (quick_from number t p c side greatest.now least.now) }
 {
-    found_code(quick(number, t, p, c, side_of(side), greatest, least))
+    answer_code(quick(number, t, p, c, side_of(side), greatest, least))
 }
 
 pub fn bench_quick_word(

@@ -1,15 +1,16 @@
 // What bench/ times and tests call from C: each function hands on to the one of its name in the crate bench, under the same promise.
+// Two functions for each name: theorems are about a library's functions, and an archive is not one. C has numbers for a fluid and a side, and each
+// part of what a search found by a call of its own.
 #![tactic(auto)]
 
-ghost use Rattle.std.specs.Prelude.{◌≡◌};
+ghost use Rattle.std.specs.Prelude.{◌≡◌, Err};
 ghost use Rattle.exponentials.specs.Exp.{exp_of};
 ghost use Rattle.logarithms.specs.Ln.{ln_of};
 ghost use Rattle.roots.specs.Root.{root_of};
-ghost use Rattle.refusals.specs.declared.Answer.TheVariants.{Refused};
+ghost use Rattle.refusals.specs.Code.{answer_code_of};
 ghost use Rattle.inputs.specs.Numbered.{by_number};
 ghost use Rattle.properties.specs.Calls.{pressure_of, entropy_of, isobaric_of, sound_speed_of};
 ghost use Rattle.preparation.specs.Prepare.{prepare_by, greatest_by, least_by};
-ghost use Rattle.outcomes.specs.Codes.{found_code_of, prepared_code_of};
 ghost use Rattle.outcomes.specs.Parts.{found_word_of};
 ghost use Rattle.bench.specs.Doors.{number_of, found_density, side_of, plain_from, quick_from, total_of, isotherm_of};
 
@@ -36,28 +37,28 @@ pub extern "C" fn bench_root(x: f64) -> f64
 
 #[unsafe(no_mangle)]
 pub extern "C" fn bench_pressure(number: u32, t: f64, rho: f64) -> f64
-    ensures { result ≡ number_of (by_number Refused number (λ F. pressure_of F t rho)) }
+    ensures { result ≡ number_of (by_number Err number (λ F. pressure_of F t rho)) }
 {
     bench::bench_pressure(number, t, rho)
 }
 
 #[unsafe(no_mangle)]
 pub extern "C" fn bench_entropy(number: u32, t: f64, rho: f64) -> f64
-    ensures { result ≡ number_of (by_number Refused number (λ F. entropy_of F t rho)) }
+    ensures { result ≡ number_of (by_number Err number (λ F. entropy_of F t rho)) }
 {
     bench::bench_entropy(number, t, rho)
 }
 
 #[unsafe(no_mangle)]
 pub extern "C" fn bench_isobaric(number: u32, t: f64, rho: f64) -> f64
-    ensures { result ≡ number_of (by_number Refused number (λ F. isobaric_of F t rho)) }
+    ensures { result ≡ number_of (by_number Err number (λ F. isobaric_of F t rho)) }
 {
     bench::bench_isobaric(number, t, rho)
 }
 
 #[unsafe(no_mangle)]
 pub extern "C" fn bench_sound_speed(number: u32, t: f64, rho: f64) -> f64
-    ensures { result ≡ number_of (by_number Refused number (λ F. sound_speed_of F t rho)) }
+    ensures { result ≡ number_of (by_number Err number (λ F. sound_speed_of F t rho)) }
 {
     bench::bench_sound_speed(number, t, rho)
 }
@@ -79,7 +80,7 @@ pub extern "C" fn bench_plain(number: u32, t: f64, p: f64, c: usize, side: u32) 
 
 #[unsafe(no_mangle)]
 pub extern "C" fn bench_plain_code(number: u32, t: f64, p: f64, c: usize, side: u32) -> u32
-    ensures { result ≡ found_code_of (plain_from number t p c side) }
+    ensures { result ≡ answer_code_of (plain_from number t p c side) }
 {
     bench::bench_plain_code(number, t, p, c, side)
 }
@@ -100,7 +101,7 @@ pub extern "C" fn bench_prepare(
     greatest: &mut [f64],
     least: &mut [f64],
 ) -> u32
-    ensures { (result ≡ prepared_code_of (prepare_by number t c greatest.old least.old))
+    ensures { (result ≡ answer_code_of (prepare_by number t c greatest.old least.old))
         × (greatest.new ≡ greatest_by number t c greatest.old least.old)
         × (least.new ≡ least_by number t c greatest.old least.old) }
 {
@@ -132,7 +133,7 @@ pub extern "C" fn bench_quick_code(
     greatest: &[f64],
     least: &[f64],
 ) -> u32
-    ensures { result ≡ found_code_of (quick_from number t p c side greatest.now least.now) }
+    ensures { result ≡ answer_code_of (quick_from number t p c side greatest.now least.now) }
 {
     bench::bench_quick_code(number, t, p, c, side, greatest, least)
 }

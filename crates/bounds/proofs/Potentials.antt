@@ -8,10 +8,9 @@ use borrow.Author.Tests.{not-true}
 use lib.Dec.{T}
 use lib.Ieee.{Float, nan, le, eq, is_nan, round}
 use lib.Ieee.Scale.{finite}
+use Rattle.std.specs.Prelude.{Ok, Err}
 use Rattle.refusals.specs.declared.Refusal.TheVariants.{AtZeroDensity, WorkNotFinite}
-use Rattle.refusals.specs.declared.Permit.{Permit}
-use Rattle.refusals.specs.declared.Permit.TheVariants.{Granted, Denied}
-use Rattle.refusals.specs.declared.Answer.TheVariants.{Refused}
+use Rattle.refusals.specs.Answer.{Permit}
 use Rattle.refusals.specs.Order.{first_of, permitted}
 use Rattle.refusals.proofs.Needed.{test_passed, also, first_of_both, permitted_granted}
 use Rattle.arithmetic.specs.Checked.{real, two⁻, ◌⊕◌, ◌⊖◌}
@@ -36,18 +35,18 @@ use Rattle.bounds.proofs.Permits.{refused_granted, potential_denied}
 use Rattle.bounds.proofs.NeverTwelve.{finite_where_granted}
 
 -- ---- what a granted permit says
-also_granted : (p q : Permit) → also p q ≡ Granted → (p ≡ Granted) × (q ≡ Granted)
-also_granted Granted q e = (refl, e)
-also_granted (Denied r) q e = (cc, cc)
+also_granted : (p q : Permit) → also p q ≡ Ok tt → (p ≡ Ok tt) × (q ≡ Ok tt)
+also_granted (Ok _) q e = (refl, e)
+also_granted (Err r) q e = (cc, cc)
 
-module _ (F : Fluid) (t ρ : Float) (granted : potential_permit F t ρ ≡ Granted) where
-  both : (state_permit F t ρ ≡ Granted) × (first_of ((not (eq ρ (real 0)), AtZeroDensity) ∷ []) ≡ Granted)
+module _ (F : Fluid) (t ρ : Float) (granted : potential_permit F t ρ ≡ Ok tt) where
+  both : (state_permit F t ρ ≡ Ok tt) × (first_of ((not (eq ρ (real 0)), AtZeroDensity) ∷ []) ≡ Ok tt)
   unfolding potential_permit state_permit
   both = also_granted (first_of (state_tests F t ρ)) (first_of ((not (eq ρ (real 0)), AtZeroDensity) ∷ [])) (sym (first_of_both (state_tests F t ρ) ((not (eq ρ (real 0)), AtZeroDensity) ∷ [])) ∙ granted)
 
   worked_itself : worked_density ρ ≡ ρ
   unfolding worked_density
-  worked_itself = rw (not-true (eq ρ (real 0)) (test_passed (not (eq ρ (real 0))) Granted AtZeroDensity both.1))
+  worked_itself = rw (not-true (eq ρ (real 0)) (test_passed (not (eq ρ (real 0))) (Ok tt) AtZeroDensity both.1))
 
 -- ---- with no ln δ there is no value
 module _ (x : Float) where
@@ -86,11 +85,11 @@ unfolding is_nan round
 tiny_number = refl
 
 module _ (F : Fluid) (t ρ : Float) where
-  in_range_lem : potential_permit F t ρ ≡ Granted → Finite F t ρ
+  in_range_lem : potential_permit F t ρ ≡ Ok tt → Finite F t ρ
   in_range_lem g = subst (Finite F t) (worked_itself F t ρ g) (finite_where_granted F t ρ (both F t ρ g).0)
 
-  exactly : (v : State → Float) → (potential_permit F t ρ ≡ Granted → T (le (two⁻ 60) (state_at F t ρ).delta) → T (finite (v (state_at F t ρ)))) → (le (two⁻ 60) (state_at F t ρ).delta ≡ false → v (state_at F t ρ) ≡ nan)
-      → (permitted (potential_permit F t ρ) (answer_from (v (state_at F t (worked_density ρ)))) ≡ Refused WorkNotFinite) ↔ SmallDensity F t ρ
+  exactly : (v : State → Float) → (potential_permit F t ρ ≡ Ok tt → T (le (two⁻ 60) (state_at F t ρ).delta) → T (finite (v (state_at F t ρ)))) → (le (two⁻ 60) (state_at F t ρ).delta ≡ false → v (state_at F t ρ) ≡ nan)
+      → (permitted (potential_permit F t ρ) (answer_from (v (state_at F t (worked_density ρ)))) ≡ Err WorkNotFinite) ↔ SmallDensity F t ρ
   exactly v number none = (
     (λ r.
         let (g, not-Finite) = refused_granted (potential_permit F t ρ) (v (state_at F t (worked_density ρ))) (potential_denied F t ρ) r in (
@@ -105,14 +104,14 @@ module _ (F : Fluid) (t ρ : Float) where
         ∙ none (not_le_of_lt (two⁻ 60) (state_at F t ρ).delta tiny_number (finite_number (state_at F t ρ).delta (in_range_lem g).reduced) small))),
   )
 
-  pub entropy_12 : (entropy_of F t ρ ≡ Refused WorkNotFinite) ↔ SmallDensity F t ρ
+  pub entropy_12 : (entropy_of F t ρ ≡ Err WorkNotFinite) ↔ SmallDensity F t ρ
   unfolding entropy_of
   entropy_12 = exactly entropy_value (λ g. (in_range_lem g).entropy) (no_entropy (state_at F t ρ))
 
-  pub gibbs_12 : (gibbs_of F t ρ ≡ Refused WorkNotFinite) ↔ SmallDensity F t ρ
+  pub gibbs_12 : (gibbs_of F t ρ ≡ Err WorkNotFinite) ↔ SmallDensity F t ρ
   unfolding gibbs_of
   gibbs_12 = exactly gibbs_value (λ g. (in_range_lem g).gibbs) (no_gibbs (state_at F t ρ))
 
-  pub helmholtz_12 : (helmholtz_of F t ρ ≡ Refused WorkNotFinite) ↔ SmallDensity F t ρ
+  pub helmholtz_12 : (helmholtz_of F t ρ ≡ Err WorkNotFinite) ↔ SmallDensity F t ρ
   unfolding helmholtz_of
   helmholtz_12 = exactly helmholtz_value (λ g. (in_range_lem g).helmholtz) (no_helmholtz (state_at F t ρ))

@@ -11,10 +11,9 @@ use borrow.Author.Tests.{not-true}
 use lib.Dec.{T}
 use lib.Ieee.{Float, fin, binary64, fits, of_int, round, add, neg, le, lt, eq}
 use lib.Ieee.Scale.{finite}
+use Rattle.std.specs.Prelude.{Ok, Err}
 use Rattle.refusals.specs.declared.Refusal.TheVariants.{NotStable, WorkNotFinite}
-use Rattle.refusals.specs.declared.Permit.{Permit}
-use Rattle.refusals.specs.declared.Permit.TheVariants.{Granted, Denied}
-use Rattle.refusals.specs.declared.Answer.TheVariants.{Refused}
+use Rattle.refusals.specs.Answer.{Permit}
 use Rattle.refusals.specs.Order.{permitted}
 use Rattle.refusals.proofs.Needed.{test_passed}
 use Rattle.refusals.proofs.InOrder.{never_denied}
@@ -42,23 +41,23 @@ use Rattle.bounds.proofs.Permits.{refused_granted, state_denied}
 use Rattle.bounds.proofs.NeverTwelve.{finite_where_granted}
 
 -- ---- V, K and Q are numbers, so the permit of 11 does not deny with 12
-stable_denied : (v k q : Float) → T (finite v) → T (finite k) → T (finite q) → stable_of v k q ≡ Denied WorkNotFinite → ⊥
+stable_denied : (v k q : Float) → T (finite v) → T (finite k) → T (finite q) → stable_of v k q ≡ Err WorkNotFinite → ⊥
 unfolding stable_of
 stable_denied v k q fv fk fq e =
     never_denied WorkNotFinite ((not (le q (real 0)) && not (le v (real 0)), NotStable) ∷ []) tt
     (rw (is_true (finite v) fv, is_true (finite k) fk, is_true (finite q) fq) at e)
 
-stable_positive : (v k q : Float) → T (finite v) → T (finite k) → T (finite q) → stable_of v k q ≡ Granted → le q (real 0) ≡ false
+stable_positive : (v k q : Float) → T (finite v) → T (finite k) → T (finite q) → stable_of v k q ≡ Ok tt → le q (real 0) ≡ false
 unfolding stable_of
 stable_positive v k q fv fk fq e =
-    let both = test_passed (not (le q (real 0)) && not (le v (real 0))) Granted NotStable (rw (is_true (finite v) fv, is_true (finite k) fk, is_true (finite q) fq) at e) in
+    let both = test_passed (not (le q (real 0)) && not (le v (real 0))) (Ok tt) NotStable (rw (is_true (finite v) fv, is_true (finite k) fk, is_true (finite q) fq) at e) in
     not-true (le q (real 0)) (and_passed (not (le q (real 0))) (not (le v (real 0))) both).0
 
 -- an answer behind two permits is 12 only where both are granted
-both_granted : (p s : Permit) (v : Float) → (p ≡ Denied WorkNotFinite → ⊥) → (p ≡ Granted → s ≡ Denied WorkNotFinite → ⊥) → permitted p (permitted s (answer_from v)) ≡ Refused WorkNotFinite
-    → (p ≡ Granted) × (s ≡ Granted) × (finite v ≡ false)
-both_granted Granted s v n m e = let (g, f) = refused_granted s v (m refl) e in (refl, g, f)
-both_granted (Denied r) s v n m e = absurd (n (cc))
+both_granted : (p s : Permit) (v : Float) → (p ≡ Err WorkNotFinite → ⊥) → (p ≡ Ok tt → s ≡ Err WorkNotFinite → ⊥) → permitted p (permitted s (answer_from v)) ≡ Err WorkNotFinite
+    → (p ≡ Ok tt) × (s ≡ Ok tt) × (finite v ≡ false)
+both_granted (Ok _) s v n m e = let (g, f) = refused_granted s v (m refl) e in (refl, g, f)
+both_granted (Err r) s v n m e = absurd (n (cc))
 
 -- ---- how small Q can be
 -- what is apart from 0 by 2⁻⁵⁴ is that large
@@ -100,7 +99,7 @@ q_large x s fx fs f above not-zero =
     ]
 
 module _ (F : Fluid) (t ρ : Float) where
-  stability_denied : state_permit F t ρ ≡ Granted → stability_permit (state_at F t (worked_density ρ)) ≡ Denied WorkNotFinite → ⊥
+  stability_denied : state_permit F t ρ ≡ Ok tt → stability_permit (state_at F t (worked_density ρ)) ≡ Err WorkNotFinite → ⊥
   unfolding stability_permit
   stability_denied g =
       let f = finite_where_granted F t ρ g in
@@ -112,7 +111,7 @@ module _ (F : Fluid) (t ρ : Float) where
   unfolding sound_speed_value sound_speed_from stability_of «V» state_of
   sound_speed_is = simp (⊖_squashed, kept_fluid, kept_t)
 
-  pub sound_speed_12 : (sound_speed_of F t ρ ≡ Refused WorkNotFinite) ↔ (StableState F t ρ × (between (real 1) (root_argument F t ρ) (real (10 ^ 8)) ≡ false))
+  pub sound_speed_12 : (sound_speed_of F t ρ ≡ Err WorkNotFinite) ↔ (StableState F t ρ × (between (real 1) (root_argument F t ρ) (real (10 ^ 8)) ≡ false))
   unfolding sound_speed_of
   sound_speed_12 = (
     (λ r.
@@ -125,7 +124,7 @@ module _ (F : Fluid) (t ρ : Float) where
   abbrev first_of_Q : Float
   first_of_Q = real 1 ⊕ real 2 ⊗ (state_at F t (worked_density ρ)).sums.s1
 
-  q_above : state_permit F t ρ ≡ Granted → stability_permit (state_at F t (worked_density ρ)) ≡ Granted → eq first_of_Q (real 0) ≡ false → T (le (two⁻ 930) (Q (state_at F t (worked_density ρ))))
+  q_above : state_permit F t ρ ≡ Ok tt → stability_permit (state_at F t (worked_density ρ)) ≡ Ok tt → eq first_of_Q (real 0) ≡ false → T (le (two⁻ 930) (Q (state_at F t (worked_density ρ))))
   unfolding stability_permit
   q_above g s n =
       let f = finite_where_granted F t ρ g in
@@ -135,7 +134,7 @@ module _ (F : Fluid) (t ρ : Float) where
       (q_large (real 2 ⊗ (state_at F t (worked_density ρ)).sums.s1) (state_at F t (worked_density ρ)).sums.s2 (product_fits _ _) (unfold state_of in s2_fits (kept_of F t) _) f.q above n)
 
   -- 12 only where 1 + 2·S1 is 0 and Q, which is S2 then, is above 0 and under 2⁻⁹³⁰
-  pub isobaric_12 : isobaric_of F t ρ ≡ Refused WorkNotFinite → StableState F t ρ × VanishingQ F t ρ
+  pub isobaric_12 : isobaric_of F t ρ ≡ Err WorkNotFinite → StableState F t ρ × VanishingQ F t ρ
   unfolding isobaric_of
   isobaric_12 r =
       let (g, s, n) = both_granted (state_permit F t ρ) (stability_permit (state_at F t (worked_density ρ))) (isobaric_value (state_at F t (worked_density ρ))) (state_denied F t ρ) stability_denied r in

@@ -1,7 +1,6 @@
 -- docs/NO-ANSWER.md, "Records": what the C calls can end with, whatever the bytes of a record, of a run and of an output are;
 -- proofs/CCall.antt and proofs/Runs.antt prove it.
-use Rattle.std.specs.Prelude.{◌≡◌, ◌↔◌, List, [], ◌∷◌, ℕ, ◌≤◌, ◌<◌, length, get_or}
-use Rattle.refusals.specs.declared.Permit.TheVariants.{Granted}
+use Rattle.std.specs.Prelude.{◌≡◌, ◌↔◌, List, [], ◌∷◌, ℕ, ◌≤◌, ◌<◌, length, get_or, Ok}
 use Rattle.questions.specs.Asked.{question_of}
 use Rattle.questions.specs.Call.{permit_of, call_code}
 use Rattle.records.specs.Run.{record_count}
@@ -10,7 +9,7 @@ use Rattle.refusals.specs.Code.{OneOf}
 
 pub record RecordCalls : Type 0 where
   -- 0 exactly if the mark, the two numbers and the room in the output are permitted
-  pub answered : (s out : List ℕ) → (call_code s out ≡ 0) ↔ (permit_of (question_of s) (length out) ≡ Granted)
+  pub answered : (s out : List ℕ) → (call_code s out ≡ 0) ↔ (permit_of (question_of s) (length out) ≡ Ok tt)
   -- one of these, else
   pub code : (s out : List ℕ) → OneOf (call_code s out) (0 ∷ 1 ∷ 2 ∷ 3 ∷ 4 ∷ 5 ∷ 7 ∷ 14 ∷ 15 ∷ [])
   -- and with room in the output not 7

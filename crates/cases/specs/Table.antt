@@ -1,21 +1,18 @@
 -- 01, "Checked values", the proved ones: the cases as rows of one table, under one statement, `Hold cases`.
-use Rattle.std.specs.Prelude.{◌≡◌, List, [], ◌∷◌, map, ℕ, Float, get_or}
+use Rattle.std.specs.Prelude.{◌≡◌, List, [], ◌∷◌, map, ℕ, Float, get_or, Result, Ok, Err}
 use Rattle.std.specs.Float.{nan}
+use Rattle.refusals.specs.Answer.{Permit}
 use Rattle.refusals.specs.declared.Refusal.{Refusal}
 use Rattle.refusals.specs.declared.Refusal.TheVariants.{InputNotFinite, TemperatureOutside, PressureOutside, TopOutside, NoCell, AtZeroDensity}
-use Rattle.refusals.specs.declared.Answer.TheVariants.{Number, Refused}
 use Rattle.arithmetic.specs.Checked.{real, ◌e-◌}
 use Rattle.elementary.specs.Calls.{exponential_of, logarithm_of, square_root_of}
 use Rattle.fluids.specs.declared.Fluid.TheVariants.{R245ca}
 use Rattle.properties.specs.Calls.{pressure_of, entropy_of}
-use Rattle.search.specs.declared.Located.{Located}
-use Rattle.search.specs.declared.Located.TheVariants.{At}
 use Rattle.search.specs.Plain.{cell_from_below, cell_from_above}
 use Rattle.search.specs.Lists.{greatest, least, greatest_list, least_list}
 use Rattle.search.specs.Quick.{quick_cell}
 use Rattle.search.specs.declared.Side.{Side}
 use Rattle.search.specs.declared.Found.{Found}
-use Rattle.search.specs.declared.Prepared.{Prepared}
 use Rattle.density.specs.Calls.{plain_of, quick_of}
 use Rattle.preparation.specs.Prepare.{prepare_of}
 
@@ -30,15 +27,15 @@ row {A} worked printed = record { Outcome = A; worked = worked; printed = printe
 
 -- a search at T and P, for the top counts c, from both sides and with all lists; and a preparation
 abbrev pub plain_refused : Float → Float → (ℕ → ℕ) → Refusal → Row
-plain_refused T P count r = row {A = ℕ → Side → Found} (λ c side. plain_of R245ca T P (count c) side) (λ c side. Found.Refused r)
+plain_refused T P count r = row {A = ℕ → Side → Result Found Refusal} (λ c side. plain_of R245ca T P (count c) side) (λ c side. Err r)
 
 abbrev pub quick_refused : Float → Float → (ℕ → ℕ) → Refusal → Row
 quick_refused T P count r =
-    row {A = ℕ → Side → List Float → List Float → Found} (λ c side g l. quick_of R245ca T P (count c) side g l) (λ c side g l. Found.Refused r)
+    row {A = ℕ → Side → List Float → List Float → Result Found Refusal} (λ c side g l. quick_of R245ca T P (count c) side g l) (λ c side g l. Err r)
 
 abbrev pub preparation_refused : Float → (ℕ → ℕ) → Refusal → Row
 preparation_refused T count r =
-    row {A = ℕ → List Float → List Float → Prepared} (λ c g l. prepare_of R245ca T (count c) g l) (λ c g l. Prepared.Refused r)
+    row {A = ℕ → List Float → List Float → Permit} (λ c g l. prepare_of R245ca T (count c) g l) (λ c g l. Err r)
 
 -- any top count, or one
 abbrev pub any : ℕ → ℕ
@@ -55,16 +52,16 @@ abbrev pub lent : List Float
 lent = map real (7 ∷ 7 ∷ 7 ∷ 7 ∷ 7 ∷ [])
 
 -- the cell of P among these, plainly and over G or L
-abbrev pub from_below : Float → Located → Row
+abbrev pub from_below : Float → Result ℕ Refusal → Row
 from_below P cell = row (cell_from_below pressures P 4) cell
 
-abbrev pub from_above : Float → Located → Row
+abbrev pub from_above : Float → Result ℕ Refusal → Row
 from_above P cell = row (cell_from_above pressures P 4) cell
 
-abbrev pub quick_from_below : Float → Located → Row
+abbrev pub quick_from_below : Float → Result ℕ Refusal → Row
 quick_from_below P cell = row (quick_cell (greatest pressures) pressures P 4) cell
 
-abbrev pub quick_from_above : Float → Located → Row
+abbrev pub quick_from_above : Float → Result ℕ Refusal → Row
 quick_from_above P cell = row (quick_cell (least pressures 4) pressures P 4) cell
 
 -- each row's two sides are equal
@@ -78,15 +75,15 @@ Hold (r ∷ rows) = Holds r × Hold rows
 abbrev pub cases : List Row
 cases =
     -- (a) exp 0 = 1
-    row (exponential_of (real 0)) (Number (real 1))
+    row (exponential_of (real 0)) (Ok (real 1))
     -- (b) ln 1 = 0
-    ∷ row (logarithm_of (real 1)) (Number (real 0))
+    ∷ row (logarithm_of (real 1)) (Ok (real 0))
     -- (c) root 65536 = 256
-    ∷ row (square_root_of (real 65536)) (Number (real 256))
+    ∷ row (square_root_of (real 65536)) (Ok (real 256))
     -- (d) pressure at 250 K, 0 is 0
-    ∷ row (pressure_of R245ca (real 250) (real 0)) (Number (real 0))
+    ∷ row (pressure_of R245ca (real 250) (real 0)) (Ok (real 0))
     -- (e) entropy there: 10
-    ∷ row (entropy_of R245ca (real 250) (real 0)) (Refused AtZeroDensity)
+    ∷ row (entropy_of R245ca (real 250) (real 0)) (Err AtZeroDensity)
     -- (f) T NaN, P 0: 2
     ∷ plain_refused nan (real 0) any InputNotFinite
     ∷ quick_refused nan (real 0) any InputNotFinite
@@ -109,19 +106,19 @@ cases =
     ∷ row (greatest_list pressures 4 lent) (map real (0 ∷ 4 ∷ 4 ∷ 4 ∷ 9 ∷ []))
     ∷ row (least_list pressures 4 lent) (map real (0 ∷ 2 ∷ 2 ∷ 3 ∷ 9 ∷ []))
     -- (k) P 3: cell 0 from below, 3 from above
-    ∷ from_below (real 3) (At 0)
-    ∷ quick_from_below (real 3) (At 0)
-    ∷ from_above (real 3) (At 3)
-    ∷ quick_from_above (real 3) (At 3)
+    ∷ from_below (real 3) (Ok 0)
+    ∷ quick_from_below (real 3) (Ok 0)
+    ∷ from_above (real 3) (Ok 3)
+    ∷ quick_from_above (real 3) (Ok 3)
     -- (l) P 4 from below: cell 3
-    ∷ from_below (real 4) (At 3)
-    ∷ quick_from_below (real 4) (At 3)
+    ∷ from_below (real 4) (Ok 3)
+    ∷ quick_from_below (real 4) (Ok 3)
     -- (m) P 9: 8 from both sides
-    ∷ from_below (real 9) (Located.Refused NoCell)
-    ∷ quick_from_below (real 9) (Located.Refused NoCell)
-    ∷ from_above (real 9) (Located.Refused NoCell)
-    ∷ quick_from_above (real 9) (Located.Refused NoCell)
+    ∷ from_below (real 9) (Err NoCell)
+    ∷ quick_from_below (real 9) (Err NoCell)
+    ∷ from_above (real 9) (Err NoCell)
+    ∷ quick_from_above (real 9) (Err NoCell)
     -- (n) P 2.5 from above: cell 2
-    ∷ from_above (25 e- 1) (At 2)
-    ∷ quick_from_above (25 e- 1) (At 2)
+    ∷ from_above (25 e- 1) (Ok 2)
+    ∷ quick_from_above (25 e- 1) (Ok 2)
     ∷ []

@@ -6,61 +6,55 @@ ghost use Rattle.search.specs.BySide.{plain_cell_of};
 
 use kept::Kept;
 use refusals::Refusal;
-use search::{Located, Side};
+use search::Side;
 use steps::end_pressure;
 
 // Visits ends 1, 2, .. and stops at the first with a pressure above p; the cell is the one before it.
-fn cell_from_below(kept: Kept, p: f64, c: usize) -> Located
+fn cell_from_below(kept: Kept, p: f64, c: usize) -> Result<usize, Refusal>
     ensures { result ≡ cell_from_below (at_ends (pressure_in_steps kept)) p c }
 {
-    let mut j = 0;
-    let cell = loop {
-        if j == c {
-            return Located::Refused(Refusal::NoCell);
-        }
-        let next = j + 1;
-        let pressure = end_pressure(kept, next);
-        if pressure != pressure {
-            return Located::Refused(Refusal::WorkNotFinite);
+    let mut cell = Err(Refusal::NoCell);
+    for j in 0..c {
+        let pressure = end_pressure(kept, j + 1);
+        if pressure.is_nan() {
+            return Err(Refusal::WorkNotFinite);
         }
         if pressure > p {
-            break j;
+            cell = Ok(j);
+            break;
         }
-        j = next;
-    };
-    Located::At(cell)
+    }
+    cell
 }
 
-// Refuses where the pressure at c is ≤ p; else visits c − 1 downwards and stops at the first with a pressure ≤ p.
-fn cell_from_above(kept: Kept, p: f64, c: usize) -> Located
+// Refuses where the pressure at c is ≤ p; else visits c − 1 downwards and stops at the first with a pressure ≤ p. Apart from the scan from below: other
+// ends are visited, by another test, and another cell is the answer (definitions `cell_from_below`, `cell_from_above`).
+fn cell_from_above(kept: Kept, p: f64, c: usize) -> Result<usize, Refusal>
     ensures { result ≡ cell_from_above (at_ends (pressure_in_steps kept)) p c }
 {
     let top = end_pressure(kept, c);
-    if top != top {
-        return Located::Refused(Refusal::WorkNotFinite);
+    if top.is_nan() {
+        return Err(Refusal::WorkNotFinite);
     }
     if top <= p {
-        return Located::Refused(Refusal::NoCell);
+        return Err(Refusal::NoCell);
     }
-    let mut j = c;
-    let cell = loop {
-        if j == 0 {
-            return Located::Refused(Refusal::NoCell);
-        }
-        j -= 1;
+    let mut cell = Err(Refusal::NoCell);
+    for j in (0..c).rev() {
         let pressure = end_pressure(kept, j);
-        if pressure != pressure {
-            return Located::Refused(Refusal::WorkNotFinite);
+        if pressure.is_nan() {
+            return Err(Refusal::WorkNotFinite);
         }
         if pressure <= p {
-            break j;
+            cell = Ok(j);
+            break;
         }
-    };
-    Located::At(cell)
+    }
+    cell
 }
 
-// The plain search for the cell, by the side.
-pub fn plain_cell(kept: Kept, p: f64, c: usize, side: Side) -> Located
+// The plain search for the cell, by the side: two cases, as in `quick_cell`, by which a scan handed over as a closure would have to be chosen, too.
+pub fn plain_cell(kept: Kept, p: f64, c: usize, side: Side) -> Result<usize, Refusal>
     ensures { result ≡ plain_cell_of side (at_ends (pressure_in_steps kept)) p c }
 {
     match side {

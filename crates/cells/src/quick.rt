@@ -7,10 +7,11 @@ ghost use Rattle.search.specs.BySide.{quick_cell_of};
 
 use kept::Kept;
 use refusals::Refusal;
-use search::{Located, Side};
+use search::Side;
 use steps::end_pressure;
 
-// While b − a > 1, the middle becomes b if its entry is above p, else a; the answer is a.
+// While b − a > 1, the middle becomes b if its entry is above p, else a; the answer is a. Not `partition_point`: the lists are lent and may be any,
+// and where the entries rise and fall the definition `halved_places` says at which place the halving ends.
 fn halve_places(list: &[f64], p: f64, c: usize) -> usize
     requires { c < length list.now }
     ensures { result ≡ halved_places (above p (entries_of list.now)) c 0 c }
@@ -29,38 +30,31 @@ fn halve_places(list: &[f64], p: f64, c: usize) -> usize
 }
 
 // The cell a where the equation's pressures at its ends enclose p, else 16; 12 if either end gives it.
-fn enclosing(kept: Kept, p: f64, a: usize) -> Located
+fn enclosing(kept: Kept, p: f64, a: usize) -> Result<usize, Refusal>
     ensures { result ≡ enclosing_of (at_ends (pressure_in_steps kept)) p a }
 {
     let low = end_pressure(kept, a);
-    if low != low {
-        return Located::Refused(Refusal::WorkNotFinite);
+    if low.is_nan() {
+        return Err(Refusal::WorkNotFinite);
     }
-    let next = a + 1;
-    let high = end_pressure(kept, next);
-    if high != high {
-        return Located::Refused(Refusal::WorkNotFinite);
+    let high = end_pressure(kept, a + 1);
+    if high.is_nan() {
+        return Err(Refusal::WorkNotFinite);
     }
-    if low <= p {
-        if p < high {
-            return Located::At(a);
-        }
+    if low <= p && p < high {
+        return Ok(a);
     }
-    Located::Refused(Refusal::NotEnclosed)
+    Err(Refusal::NotEnclosed)
 }
 
 // 8 where place c is not above p, and where there is no place c; else the cell that halving the places 0..c finds.
-fn cell_over(kept: Kept, p: f64, c: usize, list: &[f64]) -> Located
+fn cell_over(kept: Kept, p: f64, c: usize, list: &[f64]) -> Result<usize, Refusal>
     ensures { result ≡ quick_cell (entries_of list.now) (at_ends (pressure_in_steps kept)) p c }
 {
-    let places = list.len();
-    if c < places {
-        if list[c] > p {
-            let a = halve_places(list, p, c);
-            return enclosing(kept, p, a);
-        }
+    if c < list.len() && list[c] > p {
+        return enclosing(kept, p, halve_places(list, p, c));
     }
-    Located::Refused(Refusal::NoCell)
+    Err(Refusal::NoCell)
 }
 
 // From below the list of greatest pressures is read, from above that of least ones.
@@ -71,7 +65,7 @@ pub fn quick_cell(
     side: Side,
     greatest: &[f64],
     least: &[f64],
-) -> Located
+) -> Result<usize, Refusal>
     ensures { result ≡ quick_cell_of side greatest.now least.now (pressure_in_steps kept) p c }
 {
     match side {

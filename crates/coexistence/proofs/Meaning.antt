@@ -4,7 +4,7 @@ use mathlib.Core.Path.{◌≡◌, sym, ◌∙◌, ap}
 use mathlib.Core.Logic.{◌↔◌}
 use mathlib.Core.Bool.{Bool, true, ◌&&◌}
 use lib.Ieee.{Float, lt, le}
-use Rattle.refusals.specs.declared.Permit.TheVariants.{Granted}
+use Rattle.std.specs.Prelude.{Ok}
 use Rattle.refusals.specs.Order.{granted}
 use Rattle.refusals.proofs.Tests.{and_passed}
 use Rattle.refusals.proofs.InOrder.{is_granted}
@@ -78,7 +78,7 @@ module _ (F : Fluid) (T l v : Float) where
         and_passed (le (minus value_bound) values) (le values value_bound) close.1,
       )
 
-  pub accepted_means : judge_of F T l v ≡ Granted → SaturationPair F T l v
+  pub accepted_means : judge_of F T l v ≡ Ok tt → SaturationPair F T l v
   accepted_means e =
       let inside = granted (pair_permit F T l v) in
       let place = ordered F T l v in
@@ -122,9 +122,9 @@ module _ (F : Fluid) (T l v : Float) where
     unfolding meets compared_by phase_of
     met = all (all p.liquid_stable p.vapour_stable) (all (all p.pressures_from p.pressures_to) (all p.values_from p.values_to))
 
-    pub pair_accepted : judge_of F T l v ≡ Granted
+    pub pair_accepted : judge_of F T l v ≡ Ok tt
     pair_accepted = is_granted (judge_of F T l v) (accepts_is F T l v ∙ all (all (ap granted p.in_range_lem) in_order) (all worked met))
 
   -- accepted exactly if it is a saturation pair
-  pub accepted_exactly : (judge_of F T l v ≡ Granted) ↔ SaturationPair F T l v
+  pub accepted_exactly : (judge_of F T l v ≡ (Ok tt)) ↔ SaturationPair F T l v
   accepted_exactly = (accepted_means, pair_accepted)

@@ -2,56 +2,47 @@
 use mathlib.Core.Path.{◌≡◌, refl, sym, ◌∙◌, ap}
 use mathlib.Core.Bool.{Bool, true, false, cond}
 use mathlib.Core.List.{[]}
-use Prim.Native.Nat.{ℕ, zero, suc, ◌+◌, ◌-◌, ◌<◌}
-use native.Mathlib.Numerals.{sub-one}
-use native.Mathlib.Omega.{arith}
+use Prim.Native.Nat.{ℕ, suc}
 use lib.Ieee.{Float}
+use Rattle.std.specs.Prelude.{Result, Ok, Err}
+use Rattle.refusals.specs.declared.Refusal.{Refusal}
 use Rattle.refusals.specs.declared.Refusal.TheVariants.{GaveUp}
+use Rattle.refusals.specs.Answer.{Answer}
 use Rattle.fluids.specs.declared.Fluid.{Fluid}
+use Rattle.saturation.specs.Calls.{saturated_liquid_of, saturated_vapour_of}
 use Rattle.coexistence.specs.declared.Densities.{Densities}
-use Rattle.coexistence.specs.declared.Paired.{Paired}
-use Rattle.coexistence.specs.declared.Paired.TheVariants.{Pair, Refused}
 use Rattle.coexistence.specs.declared.proposer.Judged.{Judged}
 use Rattle.coexistence.specs.declared.proposer.Judged.TheVariants.{Accepted, GoesOn, Ends}
-use Rattle.coexistence.specs.Proposer.{pair, rounds, accepts, goes_on, next_of, pairs_from, pairs_after, first_accepted, judged_of}
+use Rattle.coexistence.specs.Proposer.{accepts, goes_on, next_of, pairs_from, first_accepted, started_with, pair_of, judged_of}
 
 module _ (F : Fluid) (T : Float) where
   -- what the sequence gives, n pairs more after d, by what becomes of d
-  abbrev turn_of : Judged → Densities → ℕ → Paired
-  turn_of Accepted d n = Pair d.liquid d.vapour
-  turn_of (GoesOn l v) d n = first_accepted F T (pairs_from F T n (pair l v))
-  turn_of Ends d n = Refused GaveUp
+  abbrev turn_of : Judged → Densities → ℕ → Result Densities Refusal
+  turn_of Accepted d n = Ok d
+  turn_of (GoesOn next) d n = first_accepted F T (pairs_from F T n next)
+  turn_of Ends d n = Err GaveUp
 
   one_turn : (n : ℕ) (d : Densities) → first_accepted F T (pairs_from F T (suc n) d) ≡ turn_of (judged_of F T d) d n
   unfolding pairs_from first_accepted judged_of
   one_turn n d = go (accepts F T d) (goes_on F T d)
     where
       go : (a g : Bool) →
-          cond a (Pair d.liquid d.vapour) (first_accepted F T (cond g (pairs_from F T n (next_of F T d)) []))
-          ≡ turn_of (cond a Accepted (cond g (GoesOn (next_of F T d).liquid (next_of F T d).vapour) Ends)) d n
+          cond a (Ok d) (first_accepted F T (cond g (pairs_from F T n (next_of F T d)) []))
+          ≡ turn_of (cond a Accepted (cond g (GoesOn (next_of F T d)) Ends)) d n
       go true g = refl
       go false true = refl
       go false false = refl
 
-  turn : (n : ℕ) (d : Densities) (j : Judged) → 0 < n → j ≡ judged_of F T d → first_accepted F T (pairs_from F T n d) ≡ turn_of j d (n - 1)
-  turn zero d j h e = absurd (omega arith)
-  turn (suc n) d j h e = rw sub-one (one_turn n d ∙ ap (λ (x : Judged). turn_of x d n) (sym e))
-
-  module _ (n : ℕ) (l v : Float) (j : Judged) (some : 0 < n) (e : j ≡ judged_of F T (pair l v)) where
-    pub turn_accepted : j ≡ Accepted → first_accepted F T (pairs_from F T n (pair l v)) ≡ Pair l v
-    turn_accepted told = turn n (pair l v) j some e ∙ ap (λ (x : Judged). turn_of x (pair l v) (n - 1)) told
-
-    pub turn_goes_on : (a b : Float) → j ≡ GoesOn a b → first_accepted F T (pairs_from F T n (pair l v)) ≡ first_accepted F T (pairs_from F T (n - 1) (pair a b))
-    turn_goes_on a b told = turn n (pair l v) j some e ∙ ap (λ (x : Judged). turn_of x (pair l v) (n - 1)) told
-
-    pub turn_ends : j ≡ Ends → first_accepted F T (pairs_from F T n (pair l v)) ≡ Refused GaveUp
-    turn_ends told = turn n (pair l v) j some e ∙ ap (λ (x : Judged). turn_of x (pair l v) (n - 1)) told
+  -- the same, by how the code judges d
+  pub turn : (n m : ℕ) (d : Densities) {j : Judged} → n ≡ suc m → j ≡ judged_of F T d → turn_of j d m ≡ first_accepted F T (pairs_from F T n d)
+  turn n m d e f = ap (λ (j : Judged). turn_of j d m) f ∙ sym (one_turn m d) ∙ ap (λ (k : ℕ). first_accepted F T (pairs_from F T k d)) (sym e)
 
   -- no pair is left
-  pub none_left : (n : ℕ) (d : Densities) → n ≡ 0 → first_accepted F T (pairs_from F T n d) ≡ Refused GaveUp
+  pub none_left : (d : Densities) {n : ℕ} → n ≡ 0 → Err GaveUp ≡ first_accepted F T (pairs_from F T n d)
   unfolding pairs_from first_accepted
-  none_left n d e = rw e
+  none_left d e = rw e refl
 
-  pub all_left : (n : ℕ) (d : Densities) → n ≡ 1 + rounds → first_accepted F T (pairs_from F T n d) ≡ first_accepted F T (pairs_after F T d)
-  unfolding pairs_after
-  all_left n d e = rw e
+  -- the proposer, by how its two estimates end
+  pub begun : {liquid vapour : Answer} → liquid ≡ saturated_liquid_of F T → vapour ≡ saturated_vapour_of F T → started_with F T liquid vapour ≡ pair_of F T
+  unfolding pair_of
+  begun {liquid} {vapour} e f = ap (λ (a : Answer). started_with F T a vapour) e ∙ ap (started_with F T (saturated_liquid_of F T)) f

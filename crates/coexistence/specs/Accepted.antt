@@ -1,7 +1,6 @@
 -- 02, M-105: what an accepted pair is, in one statement.
-use Rattle.std.specs.Prelude.{◌≡◌, true, Float}
+use Rattle.std.specs.Prelude.{◌≡◌, true, Float, Ok}
 use Rattle.std.specs.Float.Ieee.{lt, le}
-use Rattle.refusals.specs.declared.Permit.TheVariants.{Granted}
 use Rattle.arithmetic.specs.Checked.{real, ◌e-◌, minus, ◌⊖◌}
 use Rattle.fluids.specs.declared.Fluid.{Fluid}
 use Rattle.fluids.specs.Entries.{entry_of}
@@ -21,7 +20,7 @@ a ≤ᶠ b = le a b ≡ true
 -- the liquid's density l and the vapour's v are a saturation pair of the fluid at T
 pub record SaturationPair (F : Fluid) (T l v : Float) : Type 0 where
   -- T, l and v are finite and in the fluid's ranges: neither 2 nor 3 nor 4 applies
-  pub in_range_lem : pair_permit F T l v ≡ Granted
+  pub in_range_lem : pair_permit F T l v ≡ Ok tt
   -- T < Tc, and 0 < vapour < ρc < liquid
   pub is_below_critical : T <ᶠ (entry_of F).Tc
   pub some_vapour : real 0 <ᶠ v

@@ -5,7 +5,7 @@ use Rattle.std.specs.Float.Ieee.{lt}
 use Rattle.std.specs.Float.Ieee.Scale.{finite}
 use Rattle.refusals.specs.declared.Refusal.{Refusal}
 use Rattle.refusals.specs.declared.Refusal.TheVariants.{WorkNotFinite, NotAccepted}
-use Rattle.refusals.specs.declared.Permit.{Permit}
+use Rattle.refusals.specs.Answer.{Permit}
 use Rattle.refusals.specs.Order.{first_of}
 use Rattle.arithmetic.specs.Checked.{real, ◌e-◌, minus, between}
 use Rattle.fluids.specs.declared.Fluid.{Fluid}

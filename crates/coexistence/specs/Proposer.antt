@@ -1,15 +1,13 @@
 -- 02, M-105, the proposer: from the two estimates at T, the first pair that the judge accepts, of the starting one and those of 40 rounds.
-use Rattle.std.specs.Prelude.{Bool, cond, ◌&&◌, List, [], ◌∷◌, ℕ, zero, suc, ◌+◌, Float}
+use Rattle.std.specs.Prelude.{Bool, cond, ◌&&◌, List, [], ◌∷◌, ℕ, zero, suc, ◌+◌, Float, Result, Ok, Err}
+use Rattle.refusals.specs.declared.Refusal.{Refusal}
 use Rattle.refusals.specs.declared.Refusal.TheVariants.{GaveUp}
-use Rattle.refusals.specs.declared.Answer.{Answer}
-use Rattle.refusals.specs.declared.Answer.TheVariants.{Number, Refused}
+use Rattle.refusals.specs.Answer.{Answer}
 use Rattle.refusals.specs.Order.{granted}
 use Rattle.fluids.specs.declared.Fluid.{Fluid}
 use Rattle.inputs.specs.Inputs.{pair_permit}
 use Rattle.saturation.specs.Calls.{saturated_liquid_of, saturated_vapour_of}
 use Rattle.coexistence.specs.declared.Densities.{Densities}
-use Rattle.coexistence.specs.declared.Paired.{Paired}
-use Rattle.coexistence.specs.declared.Paired.TheVariants.{Pair}
 use Rattle.coexistence.specs.declared.proposer.Judged.{Judged}
 use Rattle.coexistence.specs.declared.proposer.Judged.TheVariants.{Accepted, GoesOn, Ends}
 use Rattle.coexistence.specs.Phase.{compared_at}
@@ -46,19 +44,19 @@ module _ (F : Fluid) (T : Float) where
   pairs_after start = pairs_from (1 + rounds) start
 
   -- the first that is accepted, or 20
-  unfoldable pub first_accepted : List Densities → Paired
-  first_accepted [] = Paired.Refused GaveUp
-  first_accepted (d ∷ ds) = cond (accepts d) (Pair d.liquid d.vapour) (first_accepted ds)
+  unfoldable pub first_accepted : List Densities → Result Densities Refusal
+  first_accepted [] = Err GaveUp
+  first_accepted (d ∷ ds) = cond (accepts d) (Ok d) (first_accepted ds)
 
   -- the two estimates are the starting pair; where one of them is refused, so is the pair
-  abbrev pub started_with : Answer → Answer → Paired
-  started_with (Number l) (Number v) = first_accepted (pairs_after (pair l v))
-  started_with (Number l) (Refused r) = Paired.Refused r
-  started_with (Refused r) vapour = Paired.Refused r
+  abbrev pub started_with : Answer → Answer → Result Densities Refusal
+  started_with (Ok l) (Ok v) = first_accepted (pairs_after (pair l v))
+  started_with (Ok l) (Err r) = Err r
+  started_with (Err r) vapour = Err r
 
-  unfoldable pub pair_of : Paired
+  unfoldable pub pair_of : Result Densities Refusal
   pair_of = started_with (saturated_liquid_of F T) (saturated_vapour_of F T)
 
   -- one pair of the sequence, as the code takes it
   unfoldable pub judged_of : Densities → Judged
-  judged_of d = cond (accepts d) Accepted (cond (goes_on d) (GoesOn (next_of d).liquid (next_of d).vapour) Ends)
+  judged_of d = cond (accepts d) Accepted (cond (goes_on d) (GoesOn (next_of d)) Ends)

@@ -10,18 +10,10 @@ mod round;
 
 pub use judge::accept;
 pub use proposer::{saturation_into, saturation_pair};
-use refusals::Refusal;
 
 // A liquid's and a vapour's density.
 #[derive(Clone, Copy)]
 pub struct Densities {
     pub liquid: f64,
     pub vapour: f64,
-}
-
-// What the proposer ends with: the liquid's and the vapour's density of an accepted pair, or a refusal.
-#[derive(Clone, Copy)]
-pub enum Paired {
-    Pair(f64, f64),
-    Refused(Refusal),
 }

@@ -2,6 +2,7 @@
 ghost use Rattle.std.specs.Prelude.{◌≡◌};
 ghost use Rattle.coexistence.specs.Phase.{phase_at, compared_by};
 
+use crate::Densities;
 use arithmetic::squash;
 use equation::{pressure_of, state_at};
 use kept::Kept;
@@ -36,11 +37,11 @@ fn phase_at(kept: Kept, rho: f64) -> Phase
 }
 
 // Both states, worked once, and the two differences, one rounded subtraction each.
-pub(crate) fn compare(kept: Kept, l: f64, v: f64) -> Compared
-    ensures { result ≡ compared_by kept l v }
+pub(crate) fn compare(kept: Kept, pair: Densities) -> Compared
+    ensures { result ≡ compared_by kept pair.liquid pair.vapour }
 {
-    let liquid = phase_at(kept, l);
-    let vapour = phase_at(kept, v);
+    let liquid = phase_at(kept, pair.liquid);
+    let vapour = phase_at(kept, pair.vapour);
     let pressures = squash(liquid.pressure - vapour.pressure);
     let values = squash(liquid.value - vapour.value);
     Compared {

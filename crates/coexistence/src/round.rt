@@ -11,8 +11,7 @@ use fluids::Fluid;
 fn pressure_step(fluid: Fluid, t: f64, pressures: f64) -> f64
     ensures { result ≡ Round.pressure_step fluid t pressures }
 {
-    let numbers = fluids::single_numbers(fluid);
-    let gas = numbers.gas;
+    let gas = fluids::single_numbers(fluid).gas;
     over(pressures, (1000.0 * gas) * t)
 }
 
@@ -24,15 +23,18 @@ fn vapour_step(d: f64, e: f64, l: f64, v: f64) -> f64
 }
 
 // l + x/Ql and v + y/Qv, with x = y − D.
-pub(crate) fn next_pair(fluid: Fluid, t: f64, l: f64, v: f64, c: Compared) -> Densities
-    ensures { result ≡ Round.next_by fluid t l v c }
+pub(crate) fn next_pair(fluid: Fluid, t: f64, pair: Densities, c: Compared) -> Densities
+    ensures { result ≡ Round.next_by fluid t pair.liquid pair.vapour c }
 {
+    let Densities {
+        liquid: l,
+        vapour: v,
+    } = pair;
     let d = pressure_step(fluid, t, c.pressures);
     let y = vapour_step(d, c.values, l, v);
     let x = y - d;
-    let of_liquid = c.liquid;
-    let of_vapour = c.vapour;
-    let liquid = squash(l + x / of_liquid.q);
-    let vapour = squash(v + y / of_vapour.q);
-    Densities { liquid, vapour }
+    Densities {
+        liquid: squash(l + x / c.liquid.q),
+        vapour: squash(v + y / c.vapour.q),
+    }
 }

@@ -4,10 +4,10 @@ use mathlib.Core.Path.{◌≡◌, refl, ap, ◌∙◌}
 use Prim.Native.Nat.{ℕ, ◌+◌, ◌≤◌, ◌<◌}
 use native.Mathlib.Omega.{arith}
 use lib.Ieee.{Float}
+use Rattle.std.specs.Prelude.{Result, Ok, Err}
+use Rattle.refusals.specs.declared.Refusal.{Refusal}
 use Rattle.fluids.specs.Entry.{most_cells}
 use Rattle.kept.specs.declared.Kept.{Kept}
-use Rattle.search.specs.declared.Located.{Located}
-use Rattle.search.specs.declared.Located.TheVariants.{At, Refused}
 use Rattle.search.specs.declared.Side.{Side}
 use Rattle.search.specs.Plain.{end_step, at_ends}
 use Rattle.search.specs.InCell.{in_cell}
@@ -25,14 +25,14 @@ use Rattle.density.specs.Granted.{StepInside}
 -- ---- found steps lie inside, whatever the pressures are
 
 module _ (p : ℕ → Float) (P : Float) (c : ℕ) (few : c ≤ most_cells) where
-  each_inside : (y : Located) → ((k : ℕ) → y ≡ At k → k ≤ end_step most_cells) → StepInside y
-  each_inside (At k) step = step k refl
-  each_inside (Refused r) step = tt
+  each_inside : (y : Result ℕ Refusal) → ((k : ℕ) → y ≡ Ok k → k ≤ end_step most_cells) → StepInside y
+  each_inside (Ok k) step = step k refl
+  each_inside (Err r) step = tt
 
-  step_inside : (x : Located) → ((j : ℕ) → x ≡ At j → j < c) → StepInside (in_cell p P x)
+  step_inside : (x : Result ℕ Refusal) → ((j : ℕ) → x ≡ Ok j → j < c) → StepInside (in_cell p P x)
   unfolding in_cell
-  step_inside (At j) under = each_inside _ (λ k e. omega (arith, under j refl, halved_inside p P 23 (end_step j) (end_step (j + 1)) k (omega arith) e))
-  step_inside (Refused r) under = tt
+  step_inside (Ok j) under = each_inside _ (λ k e. omega (arith, under j refl, halved_inside p P 23 (end_step j) (end_step (j + 1)) k (omega arith) e))
+  step_inside (Err r) under = tt
 
   pub plain_inside : (side : Side) → StepInside (plain_step_of side p P c)
   plain_inside side = step_inside (plain_cell_of side (at_ends p) P c) (λ j. plain_cell_under (at_ends p) P c j side)
@@ -46,7 +46,7 @@ module _ (kept : Kept) (P : Float) (c : ℕ) (few : c ≤ most_cells) where
   at_ends_lem : (j : ℕ) → j ≤ most_cells → at_ends (pressure_in_steps kept) j ≡ at_ends (step_pressure_of kept) j
   at_ends_lem j h = pressure_inside kept (end_step j) (omega arith)
 
-  in_cell_lem : (x : Located) → ((j : ℕ) → x ≡ At j → j < c) → in_cell (pressure_in_steps kept) P x ≡ in_cell (step_pressure_of kept) P x
+  in_cell_lem : (x : Result ℕ Refusal) → ((j : ℕ) → x ≡ Ok j → j < c) → in_cell (pressure_in_steps kept) P x ≡ in_cell (step_pressure_of kept) P x
   in_cell_lem x under = in_cell_alike (pressure_in_steps kept) (step_pressure_of kept) most_cells (pressure_inside kept) P x (λ j e. omega (arith, under j e))
 
   pub plain_guarded : (side : Side) → plain_step_of side (pressure_in_steps kept) P c ≡ plain_step_of side (step_pressure_of kept) P c

@@ -3,7 +3,7 @@
 use Rattle.std.specs.Prelude.{Float}
 use Rattle.std.specs.Float.Ieee.Scale.{finite}
 use Rattle.refusals.specs.declared.Refusal.TheVariants.{InputNotFinite}
-use Rattle.refusals.specs.declared.Answer.{Answer}
+use Rattle.refusals.specs.Answer.{Answer}
 use Rattle.refusals.specs.Order.{need}
 use Rattle.arithmetic.specs.Answered.{answer_from}
 use Rattle.exponentials.specs.Exp.{exp_of}

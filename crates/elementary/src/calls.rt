@@ -8,14 +8,15 @@ use logarithms::ln;
 use refusals::{Answer, Refusal};
 use roots::root;
 
-// 2 where the argument x is not finite, and else what the worked value gives.
+// 2 where the argument x is not finite, and else what the worked value gives. The three calls are 01's by name and differ in the function worked
+// alone: handed on, it would be a closure where its value is enough.
 fn called(x: f64, worked: f64) -> Answer
     ensures { result ≡ called_of x worked }
 {
     if finite(x) {
         answer_from(worked)
     } else {
-        Answer::Refused(Refusal::InputNotFinite)
+        Err(Refusal::InputNotFinite)
     }
 }
 

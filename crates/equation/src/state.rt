@@ -7,7 +7,8 @@ use fluids::Fluid;
 use kept::Kept;
 use sums::{Sums, sums_at};
 
-// The fluid, T, τ, ln τ, ρ, δ and the six sums.
+// The fluid, T, τ, ln τ, ρ, δ and the six sums. Four of them are Kept's, which is not held whole: the properties read no more of it, as the
+// definitions say them of these fields, and its tables are 28 numbers.
 #[derive(Clone, Copy)]
 pub struct State {
     pub fluid: Fluid,
@@ -23,20 +24,14 @@ pub struct State {
 pub fn state_at(kept: Kept, rho: f64) -> State
     ensures { result ≡ state_of kept rho }
 {
-    let fluid = kept.fluid;
-    let t = kept.t;
-    let tau = kept.tau;
-    let ln_tau = kept.ln_tau;
-    let numbers = fluids::single_numbers(fluid);
-    let delta = squash(rho / numbers.critical_density);
-    let sums = sums_at(kept, delta);
+    let delta = squash(rho / fluids::single_numbers(kept.fluid).critical_density);
     State {
-        fluid,
-        t,
-        tau,
-        ln_tau,
+        fluid: kept.fluid,
+        t: kept.t,
+        tau: kept.tau,
+        ln_tau: kept.ln_tau,
         rho,
         delta,
-        sums,
+        sums: sums_at(kept, delta),
     }
 }

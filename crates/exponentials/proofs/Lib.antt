@@ -2,5 +2,4 @@ pub mod Literals
 pub mod ExpTurn
 pub mod ExpWorked
 pub mod ExpRange
-pub mod Filled
 pub mod Halves

@@ -1,8 +1,7 @@
-// 01, "exp x": one at a time, and seven side by side, of which two make a table. For formulas: one NaN where 01 owes refusal 12.
+// 01, "exp x": of one number, and of several side by side; and two sevens as one table. For formulas: one NaN where 01 owes refusal 12.
 #![tactic(auto)]
 
-mod exps;
 mod lanes;
+mod parts;
 
-pub use exps::exp;
-pub use lanes::{joined, seven_exps};
+pub use lanes::{exp, exps, joined};

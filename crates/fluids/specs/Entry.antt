@@ -1,15 +1,14 @@
 -- A fluid's entry: everything of 01 that is the fluid's own.
-use Rattle.std.specs.Prelude.{List, ◌++◌, ℕ, take, replicate, get_or, Float}
+use Rattle.std.specs.Prelude.{◌≡◌, List, ℕ, get_or, Float}
 use Rattle.std.specs.Float.{nan}
-use Rattle.arithmetic.specs.Checked.{real}
 use Rattle.fluids.specs.declared.Term.{Term}
 use Rattle.fluids.specs.declared.Term.TheVariants.{Plain}
 use Rattle.fluids.specs.declared.Pair.{Pair}
 use Rattle.fluids.specs.declared.Estimate.{Estimate}
-use Rattle.fluids.specs.declared.Estimate.TheVariants.{Alone}
 use Rattle.fluids.specs.declared.Curve.{Curve}
 use Rattle.fluids.specs.declared.Curve.TheVariants.{Pressure, Liquid, Vapour}
 use Rattle.fluids.specs.declared.Constants.{Constants}
+use Rattle.fluids.specs.declared.Data.{Data}
 
 -- no fluid has more cells from density zero to its top; each entry is tested for it
 abbrev pub most_cells : ℕ
@@ -77,6 +76,12 @@ terms_of E Pressure = E.pressure_terms
 terms_of E Liquid = E.liquid_terms
 terms_of E Vapour = E.vapour_terms
 
--- the same as the code hands them round, in five places
-abbrev pub in_five : List Estimate → List Estimate
-in_five terms = take 5 (terms ++ replicate 5 (Alone (real 0)))
+-- an entry as the code has it: its single numbers, its tables, and the terms of each estimate
+abbrev pub IsDataOf : Entry → Data → Type 0
+IsDataOf E d =
+    (d.numbers ≡ constants_of E)
+    × (d.terms ≡ E.rows)
+    × (d.pairs ≡ E.pairs)
+    × (d.pressure.now ≡ E.pressure_terms)
+    × (d.liquid.now ≡ E.liquid_terms)
+    × (d.vapour.now ≡ E.vapour_terms)

@@ -1,3 +1,1 @@
-mod Pairs
-mod Turn
 pub mod Settled

@@ -7,8 +7,8 @@ use native.Mathlib.Nat.{le_refl}
 use borrow.Author.Tests.{leb-true, ltb-true, le-leb}
 use lib.Dec.{leb, ltb, leb→le}
 use lib.Ieee.{Float}
-use Rattle.refusals.specs.declared.Permit.{Permit}
-use Rattle.refusals.specs.declared.Permit.TheVariants.{Granted}
+use Rattle.std.specs.Prelude.{Ok}
+use Rattle.refusals.specs.Answer.{Permit}
 use Rattle.refusals.proofs.Tests.{and_passed}
 use Rattle.refusals.proofs.InOrder.{AllPassed, all_passed}
 use Rattle.fluids.specs.declared.Fluid.{Fluid}
@@ -17,23 +17,23 @@ use Rattle.fluids.specs.Entries.{entry_of}
 use Rattle.fluids.proofs.Sound.{sound}
 use Rattle.inputs.specs.Inputs.{top_test, room_of, state_tests, state_permit, saturation_tests, saturation_permit, output_tests, output_permit, search_tests, search_permit, prepare_tests, prepare_permit}
 
-pub state_passed : (F : Fluid) (t ρ : Float) → state_permit F t ρ ≡ Granted → AllPassed (state_tests F t ρ)
+pub state_passed : (F : Fluid) (t ρ : Float) → state_permit F t ρ ≡ Ok tt → AllPassed (state_tests F t ρ)
 unfolding state_permit
 state_passed F t ρ ok = all_passed (state_tests F t ρ) ok
 
-pub saturation_passed : (F : Fluid) (t : Float) → saturation_permit F t ≡ Granted → AllPassed (saturation_tests F t)
+pub saturation_passed : (F : Fluid) (t : Float) → saturation_permit F t ≡ Ok tt → AllPassed (saturation_tests F t)
 unfolding saturation_permit
 saturation_passed F t ok = all_passed (saturation_tests F t) ok
 
-pub output_passed : (F : Fluid) (t : Float) (room : Bool) → output_permit F t room ≡ Granted → AllPassed (output_tests F t room)
+pub output_passed : (F : Fluid) (t : Float) (room : Bool) → output_permit F t room ≡ Ok tt → AllPassed (output_tests F t room)
 unfolding output_permit
 output_passed F t room ok = all_passed (output_tests F t room) ok
 
-pub search_passed : (F : Fluid) (t P : Float) (c : ℕ) (room : Bool) → search_permit F t P c room ≡ Granted → AllPassed (search_tests F t P c room)
+pub search_passed : (F : Fluid) (t P : Float) (c : ℕ) (room : Bool) → search_permit F t P c room ≡ Ok tt → AllPassed (search_tests F t P c room)
 unfolding search_permit
 search_passed F t P c room ok = all_passed (search_tests F t P c room) ok
 
-pub prepare_passed : (F : Fluid) (t : Float) (c : ℕ) (room : Bool) → prepare_permit F t c room ≡ Granted → AllPassed (prepare_tests F t c room)
+pub prepare_passed : (F : Fluid) (t : Float) (c : ℕ) (room : Bool) → prepare_permit F t c room ≡ Ok tt → AllPassed (prepare_tests F t c room)
 unfolding prepare_permit
 prepare_passed F t c room ok = all_passed (prepare_tests F t c room) ok
 
@@ -52,7 +52,7 @@ room_passed c n m ok =
     let (first, second) = and_passed (ltb c n) (ltb c m) ok in
     (ltb-true c n first, ltb-true c m second)
 
-pub prepare_granted : (F : Fluid) (t : Float) (c n m : ℕ) → prepare_permit F t c (room_of c n m) ≡ Granted → (c ≤ most_cells) × (c < n) × (c < m)
+pub prepare_granted : (F : Fluid) (t : Float) (c n m : ℕ) → prepare_permit F t c (room_of c n m) ≡ Ok tt → (c ≤ most_cells) × (c < n) × (c < m)
 prepare_granted F t c n m ok =
     let (number, (temperature, (top, (room, none)))) = prepare_passed F t c (room_of c n m) ok in
     let (some, few) = top_passed F c top in

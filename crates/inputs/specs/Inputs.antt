@@ -5,7 +5,7 @@ use Rattle.std.specs.Float.Ieee.{le, eq}
 use Rattle.std.specs.Float.Ieee.Scale.{finite}
 use Rattle.refusals.specs.declared.Refusal.{Refusal}
 use Rattle.refusals.specs.declared.Refusal.TheVariants.{InputNotFinite, TemperatureOutside, DensityOutside, PressureOutside, TopOutside, TooShort, AboveCritical, AtZeroDensity}
-use Rattle.refusals.specs.declared.Permit.{Permit}
+use Rattle.refusals.specs.Answer.{Permit}
 use Rattle.refusals.specs.Order.{first_of}
 use Rattle.arithmetic.specs.Checked.{real, between}
 use Rattle.fluids.specs.declared.Fluid.{Fluid}

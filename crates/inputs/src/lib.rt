@@ -1,6 +1,9 @@
 // The tests of the inputs of every call on a fluid, in 01's order: 2, 3, 4, 5, 6, 7, 13, 10.
 //
-// Each function gives the permit, or the first refusal that applies.
+// Each function gives the permit, or the first refusal that applies. It is the row of tests of one call and reads as 01's row does, a line for each
+// test; rows in a table would be closures of unlike arguments. Whether numbers are finite or lists have room is handed over as the test's outcome,
+// and the row names its refusal, as the definitions do. A fluid and T, with what else is tested, are the calls' own arguments: no struct of theirs
+// exists before they are tested.
 #![tactic(auto)]
 
 ghost use Rattle.std.specs.Prelude.{◌≡◌, ◌&&◌};
@@ -10,6 +13,8 @@ ghost use Rattle.inputs.specs.Inputs as Inputs;
 use arithmetic::{between, both_finite, finite};
 use fluids::Fluid;
 use refusals::{Permit, Refusal, tested};
+
+// Each of the four that follow reads its own limits of the fluid's entry; what those of a real number share is `between`.
 
 // T in its range, in K.
 fn temperature_permitted(fluid: Fluid, t: f64) -> bool
@@ -45,27 +50,21 @@ fn top_permitted(fluid: Fluid, c: usize) -> bool
     ensures { result ≡ (Inputs.top_test fluid c).0 }
 {
     let numbers = fluids::single_numbers(fluid);
-    if 1 <= c {
-        return c <= numbers.top_cells;
-    }
-    false
+    1 <= c && c <= numbers.top_cells
 }
 
 // Both lent lists, of n and m places, have c + 1.
 pub fn room(c: usize, n: usize, m: usize) -> bool
     ensures { result ≡ Inputs.room_of c n m }
 {
-    if c < n {
-        return c < m;
-    }
-    false
+    c < n && c < m
 }
 
 // 2 and 3, with whether the input numbers are finite.
 fn temperature_inputs(fluid: Fluid, numbers: bool, t: f64) -> Permit
     ensures { result ≡ Inputs.temperature_permit fluid numbers t }
 {
-    let first = tested(Permit::Granted, numbers, Refusal::InputNotFinite);
+    let first = tested(Ok(()), numbers, Refusal::InputNotFinite);
     let temperature = temperature_permitted(fluid, t);
     tested(first, temperature, Refusal::TemperatureOutside)
 }
@@ -102,23 +101,17 @@ pub fn saturation_inputs(fluid: Fluid, t: f64) -> Permit
 fn pair_finite(t: f64, liquid: f64, vapour: f64) -> bool
     ensures { result ≡ Scale.finite t && (Scale.finite liquid && Scale.finite vapour) }
 {
-    if finite(t) {
-        return both_finite(liquid, vapour);
-    }
-    false
+    finite(t) && both_finite(liquid, vapour)
 }
 
 // Both densities in their range.
 fn pair_permitted(fluid: Fluid, liquid: f64, vapour: f64) -> bool
     ensures { result ≡ (Inputs.density_test fluid liquid).0 && (Inputs.density_test fluid vapour).0 }
 {
-    if density_permitted(fluid, liquid) {
-        return density_permitted(fluid, vapour);
-    }
-    false
+    density_permitted(fluid, liquid) && density_permitted(fluid, vapour)
 }
 
-// A liquid's and a vapour's density at t: 2, 3, 4.
+// A liquid's and a vapour's density at t: 2, 3, 4. Two numbers, since their struct, `Densities`, stands in a crate above this one.
 pub fn pair_inputs(fluid: Fluid, t: f64, liquid: f64, vapour: f64) -> Permit
     ensures { result ≡ Inputs.pair_permit fluid t liquid vapour }
 {

@@ -10,8 +10,9 @@ use lib.Ieee.{Float, nan, fin, binary64, of_int, round, le}
 use lib.Ieee.Fits.{and_l, and_r}
 use lib.Ieee.Order.{round_mono}
 use lib.Ieee.Scale.{finite}
+use Rattle.std.specs.Prelude.{Err}
 use Rattle.refusals.specs.declared.Refusal.TheVariants.{InputNotFinite, WorkNotFinite}
-use Rattle.refusals.specs.declared.Answer.TheVariants.{Refused}
+use Rattle.refusals.specs.Answer.{Answer}
 use Rattle.arithmetic.specs.Checked.{real, ◌e-◌, two⁻, minus, between, within}
 use Rattle.exponentials.specs.Exp.{exp_of}
 use Rattle.logarithms.specs.Ln.{digits, field, m_field, m_of, e_of, ln_work, ln_of}
@@ -22,7 +23,7 @@ use Rattle.logarithms.proofs.Fields.{m_field_small}
 use Rattle.exponentials.proofs.Literals.{finite_700, finite_minus_700}
 use Rattle.roots.proofs.Literals.{finite_1, finite_1e8}
 use Rattle.refusals.proofs.Tests.{by}
-use Rattle.refusals.proofs.Apart.{number≢refused}
+use Rattle.refusals.proofs.Apart.{ok≢err}
 use Rattle.intervals.proofs.Fractions.{holds}
 use Rattle.intervals.proofs.Rounding.{round_anti, signs_apart}
 use Rattle.intervals.proofs.Interval.{interval, tested, known, in_known}
@@ -113,7 +114,7 @@ module _ (x : Float) where
 
 -- ---- the calls
 -- a call at x with a value that is a number in the range and `nan` outside it
-called_12 : (x v : Float) (in_range : Bool) → (in_range ≡ true → T (finite v)) → (in_range ≡ false → v ≡ nan) → (called_of x v ≡ Refused WorkNotFinite) ↔ ((finite x ≡ true) × (in_range ≡ false))
+called_12 : (x v : Float) (in_range : Bool) → (in_range ≡ true → T (finite v)) → (in_range ≡ false → v ≡ nan) → (called_of x v ≡ Err WorkNotFinite) ↔ ((finite x ≡ true) × (in_range ≡ false))
 called_12 x v in_range number none = (
   (λ r. by (finite x)
       (λ f. by in_range
@@ -123,20 +124,20 @@ called_12 x v in_range number none = (
   (λ (f, p). rw (f, none p) refl),
 )
   where
-    other : Refused InputNotFinite ≡ Refused WorkNotFinite → ⊥
+    other : ◌≡◌ {A = Answer} (Err InputNotFinite) (Err WorkNotFinite) → ⊥
     other e = true≢false (cc)
 
-    not_refused : (v : Float) → T (finite v) → answer_from v ≡ Refused WorkNotFinite → ⊥
+    not_refused : (v : Float) → T (finite v) → answer_from v ≡ Err WorkNotFinite → ⊥
     not_refused nan t r = elim t [ ]
     not_refused (lib.Ieee.inf _) t r = elim t [ ]
-    not_refused (fin s m e) t r = number≢refused r
+    not_refused (fin s m e) t r = ok≢err r
 
 module _ (x : Float) where
-  pub exponential_12 : (exponential_of x ≡ Refused WorkNotFinite) ↔ ((finite x ≡ true) × (between (minus (real 700)) x (real 700) ≡ false))
+  pub exponential_12 : (exponential_of x ≡ Err WorkNotFinite) ↔ ((finite x ≡ true) × (between (minus (real 700)) x (real 700) ≡ false))
   exponential_12 = called_12 x (exp_of x) (between (minus (real 700)) x (real 700)) (exp_in_range x) (exp_outside x)
 
-  pub logarithm_12 : (logarithm_of x ≡ Refused WorkNotFinite) ↔ ((finite x ≡ true) × (between (two⁻ 60) x (real (2 ^ 60)) ≡ false))
+  pub logarithm_12 : (logarithm_of x ≡ Err WorkNotFinite) ↔ ((finite x ≡ true) × (between (two⁻ 60) x (real (2 ^ 60)) ≡ false))
   logarithm_12 = called_12 x (ln_of x) (between (two⁻ 60) x (real (2 ^ 60))) (ln_in_range x) (ln_outside x)
 
-  pub square_root_12 : (square_root_of x ≡ Refused WorkNotFinite) ↔ ((finite x ≡ true) × (between (real 1) x (real (10 ^ 8)) ≡ false))
+  pub square_root_12 : (square_root_of x ≡ Err WorkNotFinite) ↔ ((finite x ≡ true) × (between (real 1) x (real (10 ^ 8)) ≡ false))
   square_root_12 = called_12 x (root_of x) (between (real 1) x (real (10 ^ 8))) (root_in_range x) (root_outside x)

@@ -6,21 +6,20 @@ mod pairs;
 
 use pairs::pairs_that_differ;
 use preparation::prepare;
-use search::Prepared;
 use std::io;
 
 // R-245ca.
 const FLUID: u32 = 0;
 
+// Two lists of 1,665 zeros of its own, as 01 asks for them.
 fn main(rt: HostRuntime) -> io::Result<()> {
     let mut greatest = [0.0; 1665];
     let mut least = [0.0; 1665];
-    let prepared = prepare(FLUID, 400.0, 1664, &mut greatest, &mut least);
-    match prepared {
-        Prepared::Ready => {
+    match prepare(FLUID, 400.0, 1664, &mut greatest, &mut least) {
+        Ok(()) => {
             let count = pairs_that_differ(FLUID, 400.0, 1664, &greatest, &least);
             println!(rt; "{count}")
         }
-        Prepared::Refused(r) => println!(rt; "not prepared: refusal {}", refusals::code(r)),
+        Err(r) => println!(rt; "not prepared: refusal {}", u32::from(r)),
     }
 }

@@ -5,21 +5,22 @@ use Prim.Native.Nat.{ℕ, zero, suc, ◌+◌, ◌≤◌}
 use native.Mathlib.Omega.{arith}
 use lib.Ieee.{binary64, to_bits}
 use lib.ListN.{length, length-append}
-use Rattle.refusals.specs.declared.Answer.{Answer}
-use Rattle.refusals.specs.declared.Answer.TheVariants.{Number, Refused}
+use Rattle.std.specs.Prelude.{Result, Ok, Err}
+use Rattle.refusals.specs.declared.Refusal.{Refusal}
+use Rattle.refusals.specs.declared.Refusal.TheVariants.{CutShort}
+use Rattle.refusals.specs.Answer.{Answer}
 use Rattle.refusals.specs.Code.{answer_code_of}
 use Rattle.records.specs.declared.Record.{Record}
-use Rattle.records.specs.declared.Record.TheVariants.{Marked, Unknown, Cut}
 use Rattle.records.specs.Record.{record_of}
 use Rattle.questions.specs.Asked.{answer_of}
 use Rattle.lines.specs.Text.{decimal_of}
 use Rattle.lines.specs.Lines.{mark_of, mark_text, dashes, bits_text, spaced, answer_text, line_of}
 use Rattle.lines.proofs.Digits.{digits_length, decimal_small}
 
-letters_length : (r : Record) (s : List ℕ) → length (mark_of r s) ≡ 2
-letters_length (Marked kind F x y) s = refl
-letters_length Unknown s = refl
-letters_length Cut s = refl
+letters_length : (r : Result Record Refusal) (s : List ℕ) → length (mark_of r s) ≡ 2
+letters_length (Ok r) s = refl
+letters_length (Err CutShort) s = refl
+letters_length (Err r) s = refl
 
 pub mark_length : (s : List ℕ) → length (mark_text s) ≡ 2
 unfolding mark_text
@@ -31,8 +32,8 @@ dashes_length zero = refl
 dashes_length (suc k) = simp (length-append, dashes_length k) (omega arith)
 
 pub bits_length : (a : Answer) → length (bits_text a) ≡ 16
-bits_length (Number x) = digits_length 16 16 (to_bits binary64 x)
-bits_length (Refused r) = dashes_length 16
+bits_length (Ok x) = digits_length 16 16 (to_bits binary64 x)
+bits_length (Err r) = dashes_length 16
 
 pub spaced_length : (t : List ℕ) → length (spaced t) ≡ length t + 1
 spaced_length t = length-append t (32 ∷ [])

@@ -1,11 +1,10 @@
 -- Texts put into a list one after the other: what a list holds after two of them is what it holds after both as one.
-use mathlib.Core.Path.{◌≡◌, refl, sym, ◌∙◌, ap, subst}
-use mathlib.Core.List.{List, [], ◌∷◌, ◌++◌, append_assoc}
+use mathlib.Core.Path.{◌≡◌, sym, ◌∙◌, ap, subst}
+use mathlib.Core.List.{List, [], ◌++◌, append_assoc}
 use Prim.Native.Nat.{ℕ, ◌+◌, ◌≤◌}
 use native.Mathlib.Omega.{arith}
-use native.Mathlib.Numerals.{add-one}
-use lib.ListN.{length, take, drop, set, length-append, take-append-drop}
-use lib.Seq.{drop-drop, set_split}
+use lib.ListN.{length, take, drop, length-append, take-append-drop}
+use lib.Seq.{drop-drop}
 use Rattle.words.specs.Word.{placed}
 use Rattle.words.proofs.Placed.{placed_length, placed_upto, placed_after}
 use Rattle.lines.specs.Text.{Put}
@@ -26,10 +25,6 @@ pub nothing : (at : ℕ) (s : List ℕ) → Put at [] s at s
 nothing at s =
     let same : at ≡ at + 0 = omega arith in
     record { ends = same; whole = sym (take-append-drop at s) ∙ ap (λ (k : ℕ). take at s ++ drop k s) same }
-
--- one byte
-pub one : (at b : ℕ) (s : List ℕ) → at + 1 ≤ length s → Put at (b ∷ []) s (at + 1) (set s at b)
-one at b s h = record { ends = refl; whole = set_split s at b (omega arith) ∙ simp add-one }
 
 -- one text, then another
 pub then : {at m r : ℕ} {t u s s₁ s₂ : List ℕ} → Put at t s m s₁ → Put m u s₁ r s₂ → at + (length t + length u) ≤ length s → Put at (t ++ u) s r s₂

@@ -1,14 +1,14 @@
 -- 01, "The program `answers`": a header, then a line for each record: its number from 1, its mark, the code, and the bits, one
 -- space between fields.
-use Rattle.std.specs.Prelude.{Bool, cond, ◌&&◌, List, [], ◌∷◌, ◌++◌, ℕ, zero, suc, ◌+◌, ◌/◌, ◌^◌, ◌<◌, ltb, length}
+use Rattle.std.specs.Prelude.{Bool, cond, ◌&&◌, List, [], ◌∷◌, ◌++◌, ℕ, zero, suc, ◌+◌, ◌/◌, ◌^◌, ◌<◌, ltb, length, Result, Ok, Err}
 use Rattle.std.specs.Float.{binary64}
 use Rattle.std.specs.Float.Ieee.{to_bits}
-use Rattle.refusals.specs.declared.Answer.{Answer}
-use Rattle.refusals.specs.declared.Answer.TheVariants.{Number, Refused}
+use Rattle.refusals.specs.declared.Refusal.{Refusal}
+use Rattle.refusals.specs.declared.Refusal.TheVariants.{CutShort}
+use Rattle.refusals.specs.Answer.{Answer}
 use Rattle.refusals.specs.Code.{answer_code_of}
 use Rattle.words.specs.Word.{byte_at}
 use Rattle.records.specs.declared.Record.{Record}
-use Rattle.records.specs.declared.Record.TheVariants.{Marked, Unknown, Cut}
 use Rattle.lines.specs.Letters.{bytes}
 use Rattle.records.specs.Record.{record_of}
 use Rattle.questions.specs.Asked.{answer_of}
@@ -23,10 +23,10 @@ abbrev pub letters : List ℕ → List ℕ
 letters s = byte_at s 0 ∷ byte_at s 1 ∷ []
 
 -- its mark; ?? if unknown, -- if cut
-abbrev pub mark_of : Record → List ℕ → List ℕ
-mark_of (Marked kind F x y) s = letters s
-mark_of Unknown s = bytes "??"
-mark_of Cut s = bytes "--"
+abbrev pub mark_of : Result Record Refusal → List ℕ → List ℕ
+mark_of (Ok marked) s = letters s
+mark_of (Err CutShort) s = bytes "--"
+mark_of (Err r) s = bytes "??"
 
 unfoldable pub mark_text : List ℕ → List ℕ
 mark_text s = mark_of (record_of s) s
@@ -38,8 +38,8 @@ dashes (suc k) = dashes k ++ bytes "-"
 
 -- 16 lower-case hex digits of the bits, highest first, or 16 dashes
 abbrev pub bits_text : Answer → List ℕ
-bits_text (Number x) = digits_of 16 16 (to_bits binary64 x)
-bits_text (Refused r) = dashes 16
+bits_text (Ok x) = digits_of 16 16 (to_bits binary64 x)
+bits_text (Err r) = dashes 16
 
 -- a field and the space after it
 abbrev pub spaced : List ℕ → List ℕ

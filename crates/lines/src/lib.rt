@@ -5,101 +5,81 @@ mod text;
 
 ghost use Rattle.std.specs.Prelude.{◌≡◌, ◌++◌, ◌+◌, ◌≤◌, length, drop};
 ghost use Rattle.lines.specs.Text.{decimal_of, Put};
-ghost use Rattle.lines.specs.Lines.{header_text, letters, mark_text, dashes, bits_text, spaced, answer_text, line_of, lines_of, LinesFit, lines_put};
+ghost use Rattle.lines.specs.Lines.{header_text, mark_text, bits_text, spaced, answer_text, line_of, lines_of, LinesFit, lines_put};
 
 use questions::answer;
-use records::{RECORD_LENGTH, Record, read, record_at, record_count};
-use refusals::{Answer, answer_code};
-use text::{put_byte, put_decimal, put_digits, put_pair};
+use records::{RECORD_LENGTH, read, record_at, record_count};
+use refusals::{Answer, Refusal, answer_code};
+use text::Line;
 use words::bits;
 
 // The first line.
+#[tactic(auto, unfolding(crate::specs::Lines::header_text))]
 pub fn header() -> [u8; 17]
     ensures { result ≡ header_text }
 {
     *b"n mark code bits\n"
 }
 
-// The two letters in front of a record.
-fn put_letters(s: &[u8], out: &mut [u8], at: usize) -> usize
-    requires { (2 ≤ length s.now) × (at + 2 ≤ length out.old) }
-    ensures { Put at (letters s.now) out.old result out.new }
+// The mark of a record: the two letters in front of it, ?? if unknown, -- if cut.
+fn mark(s: &[u8]) -> [u8; 2]
+    ensures { result ≡ mark_text s.now }
 {
-    put_pair(s[0], s[1], out, at)
-}
-
-fn put_mark(s: &[u8], out: &mut [u8], at: usize) -> usize
-    requires { at + 2 ≤ length out.old }
-    ensures { Put at (mark_text s.now) out.old result out.new }
-{
-    let marked = read(s);
-    match marked {
-        Record::Marked(_, _, _, _) => put_letters(s, out, at),
-        Record::Unknown => put_pair(b'?', b'?', out, at),
-        Record::Cut => put_pair(b'-', b'-', out, at),
+    match read(s) {
+        Ok(_) => [s[0], s[1]],
+        Err(Refusal::CutShort) => *b"--",
+        Err(_) => *b"??",
     }
 }
 
-fn put_dashes(out: &mut [u8], at: usize) -> usize
-    requires { at + 16 ≤ length out.old }
-    ensures { Put at (dashes 16) out.old result out.new }
-{
-    let mut k: usize = 0;
-    let mut end = at;
-    while k < 16 {
-        end = put_byte(b'-', out, end);
-        k += 1;
-    }
-    end
-}
-
-fn put_bits(a: Answer, out: &mut [u8], at: usize) -> usize
-    requires { at + 16 ≤ length out.old }
-    ensures { Put at (bits_text a) out.old result out.new }
+// The bits of a number, or 16 dashes.
+#[tactic(auto, unfolding(crate::specs::Lines::dashes))]
+fn put_bits(a: Answer, line: &mut Line)
+    requires { length line.old + 16 ≤ 64 }
+    ensures { line.new ≡ line.old ++ bits_text a }
 {
     match a {
-        Answer::Number(x) => put_digits(16, 16, bits(x), out, at),
-        Answer::Refused(_) => put_dashes(out, at),
+        Ok(x) => line.put_digits(16, 16, bits(x)),
+        Err(_) => line.put(b"----------------"),
     }
 }
 
 // A number in decimal and a space.
-fn put_number(n: u64, out: &mut [u8], at: usize) -> usize
-    requires { at + 21 ≤ length out.old }
-    ensures { Put at (spaced (decimal_of n)) out.old result out.new }
+fn put_number(n: u64, line: &mut Line)
+    requires { length line.old + 21 ≤ 64 }
+    ensures { line.new ≡ line.old ++ spaced (decimal_of n) }
 {
-    let space = put_decimal(n, out, at);
-    put_byte(b' ', out, space)
+    line.put_decimal(n);
+    line.put_byte(b' ');
 }
 
 // The code and the bits.
-fn put_answer(a: Answer, out: &mut [u8], at: usize) -> usize
-    requires { at + 37 ≤ length out.old }
-    ensures { Put at (answer_text a) out.old result out.new }
+fn put_answer(a: Answer, line: &mut Line)
+    requires { length line.old + 37 ≤ 64 }
+    ensures { line.new ≡ line.old ++ answer_text a }
 {
-    let code = answer_code(a) as u64;
-    let next = put_number(code, out, at);
-    put_bits(a, out, next)
+    put_number(answer_code(a) as u64, line);
+    put_bits(a, line);
 }
 
-fn put_spaced_mark(s: &[u8], out: &mut [u8], at: usize) -> usize
-    requires { at + 3 ≤ length out.old }
-    ensures { Put at (spaced (mark_text s.now)) out.old result out.new }
+fn put_mark(s: &[u8], line: &mut Line)
+    requires { length line.old + 3 ≤ 64 }
+    ensures { line.new ≡ line.old ++ spaced (mark_text s.now) }
 {
-    let space = put_mark(s, out, at);
-    put_byte(b' ', out, space)
+    line.put(&mark(s));
+    line.put_byte(b' ');
 }
 
 // The line of the record s with the number n.
-fn put_line(n: u64, s: &[u8], out: &mut [u8], at: usize) -> usize
-    requires { at + 64 ≤ length out.old }
-    ensures { Put at (line_of n s.now) out.old result out.new }
+fn line_of(n: u64, s: &[u8]) -> Line
+    ensures { result ≡ line_of n s.now }
 {
-    let a = answer(s);
-    let mark = put_number(n, out, at);
-    let code = put_spaced_mark(s, out, mark);
-    let end = put_answer(a, out, code);
-    put_byte(b'\n', out, end)
+    let mut line = Line::new();
+    put_number(n, &mut line);
+    put_mark(s, &mut line);
+    put_answer(answer(s), &mut line);
+    line.put_byte(b'\n');
+    line
 }
 
 // The lines of the records of input, numbered from first on, into the first places of out, and how many bytes they take. A piece
@@ -113,27 +93,31 @@ pub fn put_lines(input: &[u8], first: u64, out: &mut [u8]) -> usize
     if out.len() / 64 <= length / RECORD_LENGTH {
         return 0;
     }
-    let numbers = 18446744073709551615 - first;
-    let wanted = length as u64;
-    if numbers < wanted {
+    if u64::MAX - first < length as u64 {
         return 0;
     }
     fitted_lines(input, first, out)
 }
 
-// The lines where they fit.
+// A text into the output from the place at on; gives the place after it. The output is lent, and as long as the caller likes.
+fn put_text(text: &[u8], out: &mut [u8], at: usize) -> usize
+    requires { at + length text.now ≤ length out.old }
+    ensures { Put at text.now out.old result out.new }
+{
+    let end = at + text.len();
+    out[at..end].copy_from_slice(text);
+    end
+}
+
+// The lines where they fit. By `record_at`, whose definition says what a record of a run is, and not by `chunks`.
 fn fitted_lines(input: &[u8], first: u64, out: &mut [u8]) -> usize
     requires { LinesFit first input.now out.old }
     ensures { Put 0 (lines_of first input.now) out.old result out.new }
 {
-    let count = record_count(input);
-    let mut k: usize = 0;
-    let mut at: usize = 0;
-    while k < count {
-        let before = k as u64;
-        let n = first + before;
-        at = put_line(n, record_at(input, k), out, at);
-        k += 1;
+    let mut at = 0;
+    for k in 0..record_count(input) {
+        let line = line_of(first + k as u64, record_at(input, k));
+        at = put_text(line.text(), out, at);
     }
     at
 }

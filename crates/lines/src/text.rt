@@ -1,24 +1,79 @@
-// Text put into an output at a place; each function gives the place after it.
-ghost use Rattle.std.specs.Prelude.{◌≡◌, [], ◌∷◌, ◌+◌, ◌≤◌, ◌<◌, length};
-ghost use Rattle.lines.specs.Text.{glyph_of, digits_of, width_of, decimal_of, Put};
+// The text of a line, put together in fixed memory: each function puts its bytes at the end. `write!` would hand back an error at each step, where a
+// line always has room; and digit by digit is how the definitions say a number (`digits_of`, `decimal_of`).
+ghost use Rattle.std.specs.Prelude.{◌≡◌, List, [], ◌∷◌, ◌++◌, ℕ, ◌+◌, ◌≤◌, ◌<◌, length, take};
+ghost use Rattle.lines.specs.Text.{glyph_of, digits_of, width_of, decimal_of};
 
-pub(crate) fn put_byte(b: u8, out: &mut [u8], at: usize) -> usize
-    requires { at + 1 ≤ length out.old }
-    ensures { Put at (b ∷ []) out.old result out.new }
-{
-    out[at] = b;
-    at + 1
+use std::marker::Model;
+
+// At most 64 bytes.
+#[derive(Drop)]
+pub(crate) struct Line {
+    bytes: [u8; 64],
+    end: usize,
 }
 
-// Two bytes.
-pub(crate) fn put_pair(a: u8, b: u8, out: &mut [u8], at: usize) -> usize
-    requires { at + 2 ≤ length out.old }
-    ensures { Put at (a ∷ b ∷ []) out.old result out.new }
-{
-    let next = put_byte(a, out, at);
-    put_byte(b, out, next)
+impl Model for Line {
+    ghost Value = { List ℕ };
+
+    ghost view = { λ l. take l.end l.bytes };
+
+    ghost invariant = { λ l. l.end ≤ 64 };
 }
 
+impl Line {
+    pub(crate) fn new() -> Line
+        ensures { result ≡ [] }
+    {
+        Line {
+            bytes: [0; 64],
+            end: 0,
+        }
+    }
+
+    pub(crate) fn text(&self) -> &[u8]
+        ensures { result.now ≡ self.now }
+    {
+        &self.bytes[..self.end]
+    }
+
+    pub(crate) fn put(&mut self, text: &[u8])
+        requires { length self.old + length text.now ≤ 64 }
+        ensures { self.new ≡ self.old ++ text.now }
+    {
+        let at = self.end;
+        self.end += text.len();
+        self.bytes[at..self.end].copy_from_slice(text);
+    }
+
+    pub(crate) fn put_byte(&mut self, b: u8)
+        requires { length self.old < 64 }
+        ensures { self.new ≡ self.old ++ b ∷ [] }
+    {
+        self.bytes[self.end] = b;
+        self.end += 1;
+    }
+
+    // The last k digits of n, the highest first. By recursion, as the definition `digits_of` goes: the digits above the last one are put before it.
+    pub(crate) fn put_digits(&mut self, base: u64, k: usize, n: u64)
+        requires { (0 < base) × (base ≤ 16) × (length self.old + k ≤ 64) }
+        ensures { self.new ≡ self.old ++ digits_of base k n }
+    {
+        if k > 0 {
+            self.put_digits(base, k - 1, n / base);
+            self.put_byte(glyph(n % base));
+        }
+    }
+
+    #[tactic(auto, using(crate::proofs::Digits::width_small), unfolding(crate::specs::Text::decimal_of))]
+    pub(crate) fn put_decimal(&mut self, n: u64)
+        requires { length self.old + 20 ≤ 64 }
+        ensures { self.new ≡ self.old ++ decimal_of n }
+    {
+        self.put_digits(10, width(n), n);
+    }
+}
+
+#[tactic(auto, unfolding(crate::specs::Text::glyph_of))]
 fn glyph(d: u64) -> u8
     requires { d < 16 }
     ensures { result ≡ glyph_of d }
@@ -27,41 +82,16 @@ fn glyph(d: u64) -> u8
     if d < 10 { 48 + digit } else { 87 + digit }
 }
 
-// The last k digits of n, the highest first.
-pub(crate) fn put_digits(base: u64, k: usize, n: u64, out: &mut [u8], at: usize) -> usize
-    requires { (0 < base) × (base ≤ 16) × (at + k ≤ length out.old) }
-    ensures { Put at (digits_of base k n) out.old result out.new }
-{
-    if k == 0 {
-        return at;
-    }
-    let higher = k - 1;
-    let rest = n / base;
-    let digit = glyph(n % base);
-    let next = put_digits(base, higher, rest, out, at);
-    put_byte(digit, out, next)
-}
-
-// How many decimal digits n has.
+// How many decimal digits n has, counted as the definition `width_of` counts them; `checked_ilog10` has no answer for 0.
 fn width(n: u64) -> usize
     ensures { result ≡ width_of 19 n }
 {
-    let mut w: usize = 1;
     let mut rest = n;
-    while w < 20 {
+    for w in 1..20 {
         if rest < 10 {
             return w;
         }
-        rest = rest / 10;
-        w += 1;
+        rest /= 10;
     }
-    w
-}
-
-pub(crate) fn put_decimal(n: u64, out: &mut [u8], at: usize) -> usize
-    requires { at + 20 ≤ length out.old }
-    ensures { Put at (decimal_of n) out.old result out.new }
-{
-    let k = width(n);
-    put_digits(10, k, n, out, at)
+    20
 }

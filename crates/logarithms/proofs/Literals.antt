@@ -2,17 +2,14 @@
 use mathlib.Core.Path.{◌≡◌, refl}
 use Prim.Native.Nat.{◌^◌}
 use lib.Dec.{T}
-use lib.Ieee.{binary64, of_bits, of_int, round}
+use lib.Ieee.{Float, binary64, of_bits, of_int, round}
 use lib.Ieee.Scale.{finite}
-use Rattle.arithmetic.specs.Checked.{real, ◌e-◌, two⁻, squash}
+use Rattle.arithmetic.specs.Checked.{real, ◌e-◌, two⁻, squash, between}
 
-pub lit_two⁻60 : of_bits binary64 0x3c30000000000000 ≡ two⁻ 60
-unfolding of_bits round
-lit_two⁻60 = refl
-
-pub lit_two60 : of_bits binary64 0x43b0000000000000 ≡ real (2 ^ 60)
+-- the test whether x lies in ln's range
+pub lit_range : (x : Float) → between (of_bits binary64 0x3c30000000000000) x (of_bits binary64 0x43b0000000000000) ≡ between (two⁻ 60) x (real (2 ^ 60))
 unfolding of_bits of_int round
-lit_two60 = refl
+lit_range x = refl
 
 pub lit_ln2 : of_bits binary64 0x3fe62e42fefa39ef ≡ 6931471805599453 e- 16
 unfolding of_bits round

@@ -1,11 +1,12 @@
--- The sheet of 1/n, n = 1, 3, .. 21: a table that is the list of 01's quotients, one fact that is computed for the whole table, has at each place the quotient that the steps ask for.
+-- The sheet of 1/n, n = 1, 3, .. 21, is the list of 01's quotients, one fact that is computed for the whole table: so it has at each place the quotient that the steps ask for.
 use mathlib.Core.Path.{◌≡◌, refl, ap, ◌∙◌}
 use mathlib.Core.List.{List, [], ◌∷◌}
 use Prim.Native.Nat.{ℕ, zero, suc, ◌+◌, ◌*◌, ◌<◌}
 use native.Mathlib.Nat.{le_of_suc-le-suc, not-suc-le-zero}
 use lib.ListN.{get_or}
-use lib.Ieee.{Float, nan}
+use lib.Ieee.{Float, nan, of_bits, of_int, round, div}
 use Rattle.arithmetic.specs.Checked.{real, squash, ◌⊘◌}
+use Rattle.logarithms.specs.declared.TheConstants.{RECIPROCALS}
 use Rattle.arithmetic.proofs.Operations.{⊘_squashed}
 
 -- f 0, f 1, .., so many of them
@@ -27,7 +28,11 @@ quotient k = real 1 ⊘ real (2 * k + 1)
 abbrev pub IsSheet : List Float → Type 0
 IsSheet table = table ≡ listed quotient 11
 
+pub sheet : IsSheet RECIPROCALS
+unfolding listed ◌⊘◌ of_bits of_int round div
+sheet = refl
+
 -- the number at the place k is 1/n for n = 2·k + 1
-pub sheet_at : (table : List Float) → IsSheet table → (k : ℕ) → k < 11 → squash (get_or table k nan) ≡ quotient k
-sheet_at table e k h =
-    ap (λ (xs : List Float). squash (get_or xs k nan)) e ∙ ap squash (listed_at quotient 11 k h) ∙ ⊘_squashed (real 1) (real (2 * k + 1))
+pub sheet_at : (k : ℕ) → k < 11 → squash (get_or RECIPROCALS k nan) ≡ quotient k
+sheet_at k h =
+    ap (λ (xs : List Float). squash (get_or xs k nan)) sheet ∙ ap squash (listed_at quotient 11 k h) ∙ ⊘_squashed (real 1) (real (2 * k + 1))

@@ -7,13 +7,14 @@ ghost use Rattle.std.specs.Float.{binary64};
 ghost use Rattle.arithmetic.specs.Checked.{squash as squash_of, real, ◌e-◌, ◌⊘◌};
 ghost use Rattle.logarithms.specs.Ln.{m_field, m_of, e_of, ln_steps, ln_work, ln_of};
 
-use arithmetic::squash;
+use arithmetic::{between, squash};
 
 // x = m·2ᵉ with 0.75 ≤ m < 1.5; e is a whole number.
 #[derive(Clone, Copy)]
 struct Parts {
     m: f64,
     e: f64,
+    ghost inside: { T (le (75 e- 2) m) × T (lt m (15 e- 1)) },
 }
 
 // The exponent's field under which the 52 digits stand for m.
@@ -32,7 +33,7 @@ fn split(x: f64) -> Parts
     requires { T (not (is_nan x)) }
     ensures { (result.m ≡ m_of x) × (result.e ≡ of_int binary64 (e_of x)) }
 {
-    let bits = f64::to_bits(x);
+    let bits = x.to_bits();
     let digits = bits % 4503599627370496;
     let field = bits / 4503599627370496 % 2048;
     let under = m_field(digits);
@@ -64,21 +65,18 @@ const RECIPROCALS: [f64; 11] = [
 fn steps(s: f64) -> f64
     ensures { squash_of result ≡ ln_steps (squash_of s) 10 (real 1 ⊘ real 21) }
 {
-    let reciprocals = RECIPROCALS;
-    let mut h = reciprocals[10];
-    let mut k: usize = 10;
-    while 0 < k {
-        k -= 1;
-        h = reciprocals[k] + s * h;
+    let mut h = RECIPROCALS[10];
+    for k in (0..10).rev() {
+        h = RECIPROCALS[k] + s * h;
     }
     h
 }
 
 // (2·z)·H + e·0.6931471805599453, with z = (m−1)/(m+1) and H the steps at z·z.
-fn work(m: f64, e: f64) -> f64
-    requires { T (le (75 e- 2) m) × T (lt m (15 e- 1)) }
-    ensures { squash_of result ≡ ln_work m e }
+fn work(parts: Parts) -> f64
+    ensures { squash_of result ≡ ln_work parts.m parts.e }
 {
+    let Parts { m, e } = parts;
     let z = (m - 1.0) / (m + 1.0);
     let h = steps(z * z);
     (2.0 * z) * h + e * 0.6931471805599453
@@ -88,14 +86,9 @@ fn work(m: f64, e: f64) -> f64
 pub fn ln(x: f64) -> f64
     ensures { result ≡ ln_of x }
 {
-    if 8.673617379884035e-19 <= x {
-        if x <= 1152921504606846976.0 {
-            let p = split(x);
-            let m = p.m;
-            let e = p.e;
-            return squash(work(m, e));
-        }
-        return 0.0 / 0.0;
+    if between(8.673617379884035e-19, x, 1152921504606846976.0) {
+        squash(work(split(x)))
+    } else {
+        f64::NAN
     }
-    0.0 / 0.0
 }

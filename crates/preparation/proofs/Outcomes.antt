@@ -1,13 +1,14 @@
 -- What a preparation ends with and leaves, by its parts: what refused inputs give, and what permitted ones.
 use mathlib.Core.Path.{◌≡◌, sym, ap, ◌∙◌}
-use mathlib.Core.Bool.{Bool, true, false, true≢false}
 use mathlib.Core.List.{List}
 use Prim.Native.Nat.{ℕ, ◌+◌, ◌≤◌, ◌<◌}
 use native.Mathlib.Omega.{arith}
 use lib.ListN.{length}
 use lib.Ieee.{Float}
+use Rattle.std.specs.Prelude.{Ok, Err}
+use Rattle.refusals.specs.Answer.{Permit}
+use Rattle.refusals.proofs.Apart.{ok≢err}
 use Rattle.refusals.specs.declared.Refusal.{Refusal}
-use Rattle.refusals.specs.declared.Refusal.TheVariants.{WorkNotFinite}
 use Rattle.arithmetic.specs.Checked.{real}
 use Rattle.fluids.specs.declared.Fluid.{Fluid}
 use Rattle.kept.specs.declared.Kept.{Kept}
@@ -17,39 +18,36 @@ use Rattle.search.specs.Lists.{greatest, least, some_not_finite, filled, greates
 use Rattle.search.specs.Quick.{entries_of}
 use Rattle.search.proofs.Filling.{filled_same, filled_over, filled_entry}
 use Rattle.search.proofs.GreatestAndLeast.{greatest_same, least_same}
-use Rattle.refusals.specs.declared.Permit.TheVariants.{Granted, Denied}
-use Rattle.search.specs.declared.Prepared.{Prepared}
-use Rattle.search.specs.declared.Prepared.TheVariants.{Ready}
 use Rattle.steps.specs.Steps.{step_pressure_of}
 use Rattle.inputs.specs.Inputs.{room_of, prepare_permit}
 use Rattle.preparation.specs.Filled.{Filled}
 use Rattle.preparation.specs.Prepare.{prepared_by, prepare_of, greatest_after, least_after}
 
 -- what the call gives, and what it leaves in both lists
-pub record Prepares (F : Fluid) (t : Float) (c : ℕ) (g₀ l₀ : List Float) (r : Prepared) (g l : List Float) : Type 0 where
+pub record Prepares (F : Fluid) (t : Float) (c : ℕ) (g₀ l₀ : List Float) (r : Permit) (g l : List Float) : Type 0 where
   pub outcome : r ≡ prepare_of F t c g₀ l₀
   pub greatest_left : g ≡ greatest_after F t c g₀ l₀
   pub least_left : l ≡ least_after F t c g₀ l₀
 
 module _ (F : Fluid) (t : Float) (c : ℕ) (g₀ l₀ : List Float) where
-  pub prepare_refused : (r : Refusal) → prepare_permit F t c (room_of c (length g₀) (length l₀)) ≡ Denied r → Prepares F t c g₀ l₀ (Prepared.Refused r) g₀ l₀
+  pub prepare_refused : (r : Refusal) → prepare_permit F t c (room_of c (length g₀) (length l₀)) ≡ Err r → Prepares F t c g₀ l₀ (Err r) g₀ l₀
   unfolding prepare_of greatest_after least_after
   prepare_refused r e = record { outcome = sym (rw e); greatest_left = sym (rw e); least_left = sym (rw e) }
 
-  pub prepare_answered : (kept : Kept) (r : Prepared) (g l : List Float) → prepare_permit F t c (room_of c (length g₀) (length l₀)) ≡ Granted → kept ≡ kept_of F t
-      → r ≡ prepared_by Granted (some_not_finite (at_ends (step_pressure_of kept)) (c + 1)) → g ≡ greatest_list (at_ends (step_pressure_of kept)) c g₀ → l ≡ least_list (at_ends (step_pressure_of kept)) c l₀
+  pub prepare_answered : (kept : Kept) (r : Permit) (g l : List Float) → prepare_permit F t c (room_of c (length g₀) (length l₀)) ≡ Ok tt → kept ≡ kept_of F t
+      → r ≡ prepared_by (Ok tt) (some_not_finite (at_ends (step_pressure_of kept)) (c + 1)) → g ≡ greatest_list (at_ends (step_pressure_of kept)) c g₀ → l ≡ least_list (at_ends (step_pressure_of kept)) c l₀
       → Prepares F t c g₀ l₀ r g l
   unfolding prepare_of greatest_after least_after
   prepare_answered kept r g l e k a b d = record {
-    outcome = a ∙ ap (λ (y : Kept). prepared_by Granted (some_not_finite (at_ends (step_pressure_of y)) (c + 1))) k ∙ sym (rw e);
+    outcome = a ∙ ap (λ (y : Kept). prepared_by (Ok tt) (some_not_finite (at_ends (step_pressure_of y)) (c + 1))) k ∙ sym (rw e);
     greatest_left = b ∙ ap (λ (y : Kept). greatest_list (at_ends (step_pressure_of y)) c g₀) k ∙ sym (rw e);
     least_left = d ∙ ap (λ (y : Kept). least_list (at_ends (step_pressure_of y)) c l₀) k ∙ sym (rw e);
   }
 
 -- the lists filled and swept, or filled and cleared
 module _ (q : ℕ → Float) (c : ℕ) (g₀ l₀ g l g' l' : List Float) where
-  filled_all : Filled q c g₀ l₀ true g l → c < length g₀ → c < length l₀ → g' ≡ filled (greatest (entries_of g)) (c + 1) g → l' ≡ filled (least (entries_of l) c) (c + 1) l
-      → (Ready ≡ prepared_by Granted (some_not_finite q (c + 1))) × (g' ≡ greatest_list q c g₀) × (l' ≡ least_list q c l₀)
+  filled_all : Filled q c g₀ l₀ (Ok tt) g l → c < length g₀ → c < length l₀ → g' ≡ filled (greatest (entries_of g)) (c + 1) g → l' ≡ filled (least (entries_of l) c) (c + 1) l
+      → ((Ok tt) ≡ prepared_by (Ok tt) (some_not_finite q (c + 1))) × (g' ≡ greatest_list q c g₀) × (l' ≡ least_list q c l₀)
   unfolding greatest_list least_list
   filled_all (s, fg, fl) hg hl sg sl =
       let raw : (xs₀ xs : List Float) → c < length xs₀ → xs ≡ filled q (c + 1) xs₀ → (i : ℕ) → i ≤ c → entries_of xs i ≡ q i =
@@ -65,21 +63,21 @@ module _ (q : ℕ → Float) (c : ℕ) (g₀ l₀ g l g' l' : List Float) where
             ∙ filled_over (least q c) q (c + 1) (c + 1) l₀ (omega arith)))),
       )
 
-  pub lists_ready : (b : Bool) → b ≡ true → Filled q c g₀ l₀ b g l → c < length g₀ → c < length l₀ → g' ≡ filled (greatest (entries_of g)) (c + 1) g → l' ≡ filled (least (entries_of l) c) (c + 1) l
-      → (Ready ≡ prepared_by Granted (some_not_finite q (c + 1))) × (g' ≡ greatest_list q c g₀) × (l' ≡ least_list q c l₀)
-  lists_ready true e f hg hl sg sl = filled_all f hg hl sg sl
-  lists_ready false e f hg hl sg sl = absurd (true≢false (sym e))
+  pub lists_ready : (p : Permit) → p ≡ Ok tt → Filled q c g₀ l₀ p g l → c < length g₀ → c < length l₀ → g' ≡ filled (greatest (entries_of g)) (c + 1) g → l' ≡ filled (least (entries_of l) c) (c + 1) l
+      → ((Ok tt) ≡ prepared_by (Ok tt) (some_not_finite q (c + 1))) × (g' ≡ greatest_list q c g₀) × (l' ≡ least_list q c l₀)
+  lists_ready (Ok _) e f hg hl sg sl = filled_all f hg hl sg sl
+  lists_ready (Err r) e f hg hl sg sl = absurd (ok≢err (sym e))
 
-  filled_some : Filled q c g₀ l₀ false g l → g' ≡ filled (λ j. real 0) (c + 1) g → l' ≡ filled (λ j. real 0) (c + 1) l
-      → (Prepared.Refused WorkNotFinite ≡ prepared_by Granted (some_not_finite q (c + 1))) × (g' ≡ greatest_list q c g₀) × (l' ≡ least_list q c l₀)
+  filled_some : {r : Refusal} → Filled q c g₀ l₀ (Err r) g l → g' ≡ filled (λ j. real 0) (c + 1) g → l' ≡ filled (λ j. real 0) (c + 1) l
+      → (Err r ≡ prepared_by (Ok tt) (some_not_finite q (c + 1))) × (g' ≡ greatest_list q c g₀) × (l' ≡ least_list q c l₀)
   unfolding greatest_list least_list
-  filled_some (s, (n, h, fg, fl)) cg cl = (
-    sym (simp s),
+  filled_some (twelve, s, (n, h, fg, fl)) cg cl = (
+    rw twelve (sym (simp s)),
     sym (simp s (sym (cg ∙ ap (filled (λ j. real 0) (c + 1)) fg ∙ filled_over (λ j. real 0) q (c + 1) n g₀ h))),
     sym (simp s (sym (cl ∙ ap (filled (λ j. real 0) (c + 1)) fl ∙ filled_over (λ j. real 0) q (c + 1) n l₀ h))),
   )
 
-  pub lists_cleared : (b : Bool) → b ≡ false → Filled q c g₀ l₀ b g l → g' ≡ filled (λ j. real 0) (c + 1) g → l' ≡ filled (λ j. real 0) (c + 1) l
-      → (Prepared.Refused WorkNotFinite ≡ prepared_by Granted (some_not_finite q (c + 1))) × (g' ≡ greatest_list q c g₀) × (l' ≡ least_list q c l₀)
-  lists_cleared true e f cg cl = absurd (true≢false e)
-  lists_cleared false e f cg cl = filled_some f cg cl
+  pub lists_cleared : {r : Refusal} (p : Permit) → p ≡ Err r → Filled q c g₀ l₀ p g l → g' ≡ filled (λ j. real 0) (c + 1) g → l' ≡ filled (λ j. real 0) (c + 1) l
+      → (Err r ≡ prepared_by (Ok tt) (some_not_finite q (c + 1))) × (g' ≡ greatest_list q c g₀) × (l' ≡ least_list q c l₀)
+  lists_cleared (Ok _) e f cg cl = absurd (ok≢err e)
+  lists_cleared {r} (Err s) e f cg cl = let same : s ≡ r = cc in rw (sym same) (filled_some f cg cl)

@@ -4,53 +4,17 @@
 // gets one reply, with code 15.
 #![tactic(auto)]
 
-ghost use Rattle.std.specs.Prelude.{◌≡◌, ◌≤◌, length};
+use std::io::{self, Write};
 
-use std::io::{self, ErrorKind, Read, Write};
-
-// Room for 2,730 questions, and for as many replies.
-fn question_block() -> [u8; 65520]
-    ensures { 65520 ≡ length result }
-{
-    [0; 65520]
-}
-
-fn reply_block() -> [u8; 43680]
-    ensures { 43680 ≡ length result }
-{
-    [0; 43680]
-}
-
-// Reads on until the block is full, or the input ends or cannot be read: how many bytes it has.
-fn read_block(rt: &HostRuntime, block: &mut [u8]) -> usize
-    ensures { result ≤ length block.old }
-{
-    let mut n = 0;
-    for _ in 0..u64::MAX {
-        if n >= block.len() {
-            return n;
-        }
-        match rt.stdin().read(&mut block[n..]) {
-            Ok(0) => return n,
-            Ok(more) => n += more,
-            Err(e) => {
-                if e.kind() != ErrorKind::Interrupted {
-                    return n;
-                }
-            }
-        }
-    }
-    n
-}
-
-// Answers one block of questions; false where the input ended.
+// Answers one block of questions, of which it has room for 2,730 and for as many replies, in fixed memory; false where the input ended, which is no
+// error.
 fn block(rt: &HostRuntime) -> io::Result<bool> {
-    let mut input = question_block();
-    let mut out = reply_block();
-    let n = read_block(rt, &mut input);
+    let mut input = [0; 65520];
+    let mut out = [0; 43680];
+    let (n, _) = blocks::fill(&mut rt.stdin(), &mut input);
     let end = probe_replies::put_replies(&input[..n], &mut out);
     rt.stdout().write_all(&out[..end])?;
-    Ok(n == 65520)
+    Ok(n == input.len())
 }
 
 // No file is as long as 2⁴⁰ blocks; a loop has to end.

@@ -1,12 +1,11 @@
 -- The probe's calls of numbers alone. A call's number is 1 to 3, the elementary functions; or else the call n % 100 of the fluid n / 100: 14 where there
 -- is no such call, then 17 where there is no such fluid.
-use Rattle.std.specs.Prelude.{cond, List, [], ◌∷◌, ℕ, ◌-◌, ◌/◌, ◌%◌, ◌^◌, min, eqb, Float}
+use Rattle.std.specs.Prelude.{cond, List, [], ◌∷◌, ℕ, ◌-◌, ◌/◌, ◌%◌, ◌^◌, min, eqb, Float, Result, Err}
 use Rattle.refusals.specs.declared.Refusal.{Refusal}
 use Rattle.refusals.specs.declared.Refusal.TheVariants.{UnknownMark}
-use Rattle.refusals.specs.declared.Answer.{Answer}
-use Rattle.refusals.specs.declared.Answer.TheVariants.{Refused}
+use Rattle.refusals.specs.Answer.{Answer}
 use Rattle.elementary.specs.Calls.{exponential_of, logarithm_of, square_root_of}
-use Rattle.fluids.specs.declared.Named.{Named}
+use Rattle.fluids.specs.declared.Fluid.{Fluid}
 use Rattle.fluids.specs.Entries.{entry_of, fluid_numbered}
 use Rattle.inputs.specs.Numbered.{by_name}
 use Rattle.properties.specs.Calls.{pressure_of, energy_of, enthalpy_of, isochoric_of, entropy_of, gibbs_of, helmholtz_of, isobaric_of, sound_speed_of}
@@ -19,39 +18,39 @@ use Rattle.outcomes.specs.Codes.{found_answer_of}
 -- ---- searches up to the fluid's own top
 
 -- the cells up to it; none where no fluid is named
-abbrev pub own_top : Named → ℕ
+abbrev pub own_top : Result Fluid Refusal → ℕ
 own_top named = by_name (λ (r : Refusal). 0) named (λ F. (entry_of F).top_cells)
 
 -- the density alone, of the plain search; 17 where no fluid is named
-abbrev pub plain_answer : Named → Side → Float → Float → Answer
-plain_answer named side T P = by_name Refused named (λ F. found_answer_of (plain_of F T P (entry_of F).top_cells side))
+abbrev pub plain_answer : Result Fluid Refusal → Side → Float → Float → Answer
+plain_answer named side T P = by_name Err named (λ F. found_answer_of (plain_of F T P (entry_of F).top_cells side))
 
 -- ---- the calls of what a number names, at the numbers x and y; a call of one number does not look at y
 
-abbrev pub search_calls : Named → Float → Float → List (ℕ × Answer)
+abbrev pub search_calls : Result Fluid Refusal → Float → Float → List (ℕ × Answer)
 search_calls named x y =
     (30, plain_answer named FromBelow x y)
     ∷ (31, plain_answer named FromAbove x y)
     ∷ []
 
-abbrev pub estimate_calls : Named → Float → Float → List (ℕ × Answer)
+abbrev pub estimate_calls : Result Fluid Refusal → Float → Float → List (ℕ × Answer)
 estimate_calls named x y =
-    (20, by_name Refused named (λ F. saturation_pressure_of F x))
-    ∷ (21, by_name Refused named (λ F. saturated_liquid_of F x))
-    ∷ (22, by_name Refused named (λ F. saturated_vapour_of F x))
+    (20, by_name Err named (λ F. saturation_pressure_of F x))
+    ∷ (21, by_name Err named (λ F. saturated_liquid_of F x))
+    ∷ (22, by_name Err named (λ F. saturated_vapour_of F x))
     ∷ search_calls named x y
 
-abbrev pub property_calls : Named → Float → Float → List (ℕ × Answer)
+abbrev pub property_calls : Result Fluid Refusal → Float → Float → List (ℕ × Answer)
 property_calls named x y =
-    (10, by_name Refused named (λ F. pressure_of F x y))
-    ∷ (11, by_name Refused named (λ F. energy_of F x y))
-    ∷ (12, by_name Refused named (λ F. enthalpy_of F x y))
-    ∷ (13, by_name Refused named (λ F. isochoric_of F x y))
-    ∷ (14, by_name Refused named (λ F. entropy_of F x y))
-    ∷ (15, by_name Refused named (λ F. gibbs_of F x y))
-    ∷ (16, by_name Refused named (λ F. helmholtz_of F x y))
-    ∷ (17, by_name Refused named (λ F. isobaric_of F x y))
-    ∷ (18, by_name Refused named (λ F. sound_speed_of F x y))
+    (10, by_name Err named (λ F. pressure_of F x y))
+    ∷ (11, by_name Err named (λ F. energy_of F x y))
+    ∷ (12, by_name Err named (λ F. enthalpy_of F x y))
+    ∷ (13, by_name Err named (λ F. isochoric_of F x y))
+    ∷ (14, by_name Err named (λ F. entropy_of F x y))
+    ∷ (15, by_name Err named (λ F. gibbs_of F x y))
+    ∷ (16, by_name Err named (λ F. helmholtz_of F x y))
+    ∷ (17, by_name Err named (λ F. isobaric_of F x y))
+    ∷ (18, by_name Err named (λ F. sound_speed_of F x y))
     ∷ estimate_calls named x y
 
 -- those of no fluid
@@ -73,4 +72,4 @@ fluid_number call = min (call / 100) (2 ^ 32 - 1)
 unfoldable pub answer_of_numbers : ℕ → Float → Float → Answer
 answer_of_numbers call x y =
     look_up call (elementary_calls x)
-    (look_up (call % 100) (property_calls (fluid_numbered (call / 100)) x y) (Refused UnknownMark))
+    (look_up (call % 100) (property_calls (fluid_numbered (call / 100)) x y) (Err UnknownMark))

@@ -1,15 +1,14 @@
 // The probe's calls of numbers alone, group after group: who has no call of the number hands it on to the next.
 #![tactic(auto)]
 
-ghost use Rattle.std.specs.Prelude.{◌≡◌, ◌/◌};
+ghost use Rattle.std.specs.Prelude.{◌≡◌, ◌/◌, Err};
 ghost use Rattle.refusals.specs.declared.Refusal.TheVariants.{UnknownMark};
-ghost use Rattle.refusals.specs.declared.Answer.TheVariants.{Refused};
 ghost use Rattle.fluids.specs.Entries.{fluid_numbered};
-ghost use Rattle.probe_calls.specs.Calls.{look_up, property_calls, estimate_calls, search_calls, plain_answer, own_top, fluid_number, answer_of_numbers};
+ghost use Rattle.probe_calls.specs.Calls.{look_up, property_calls, plain_answer, own_top, fluid_number, answer_of_numbers};
 
 use density::plain;
 use elementary::{exponential, logarithm, square_root};
-use fluids::{Named, fluid_numbered};
+use fluids::{Fluid, single_numbers};
 use outcomes::found_answer;
 use properties::{
     energy, enthalpy, entropy, gibbs_energy, helmholtz_energy, isobaric_heat_capacity,
@@ -24,112 +23,62 @@ use search::Side;
 pub fn fluid_number(call: u64) -> u32
     ensures { (result ≡ fluid_number call) × (fluid_numbered result ≡ fluid_numbered (call / 100)) }
 {
-    let hundreds = call / 100;
-    if hundreds < 4294967296 {
-        return hundreds as u32;
-    }
-    4294967295
+    u32::try_from(call / 100).unwrap_or(u32::MAX)
 }
 
-// The cells up to the own top of the fluid of a number; none where no fluid has it.
+// The cells up to the own top of the fluid of a number; none where no fluid has it, which a search refuses with 17 before it looks at them
+// (definition `own_top`).
 pub fn own_top(number: u32) -> usize
     ensures { result ≡ own_top (fluid_numbered number) }
 {
-    let named = fluid_numbered(number);
-    match named {
-        Named::Known(fluid) => {
-            let numbers = fluids::single_numbers(fluid);
-            numbers.top_cells
-        }
-        Named::Unknown => 0,
+    match Fluid::try_from(number) {
+        Ok(fluid) => single_numbers(fluid).top_cells,
+        Err(_) => 0,
     }
 }
 
 // 1 to 3, elementary functions of x; and all that follow, which are calls of a fluid.
+#[tactic(auto, unfolding(crate::specs::Calls::look_up, crate::specs::Calls::answer_of_numbers))]
 pub fn answer_of_numbers(call: u64, x: f64, y: f64) -> Answer
     ensures { result ≡ answer_of_numbers call x y }
 {
-    if call == 1 {
-        return exponential(x);
+    match call {
+        1 => exponential(x),
+        2 => logarithm(x),
+        3 => square_root(x),
+        _ => answer_of_fluid(fluid_number(call), call % 100, x, y),
     }
-    if call == 2 {
-        return logarithm(x);
-    }
-    if call == 3 {
-        return square_root(x);
-    }
-    let number = fluid_number(call);
-    let which = call % 100;
-    answer_from_10(number, which, x, y)
 }
 
-// 10 to 18, properties at the temperature x and the density y.
-fn answer_from_10(number: u32, which: u64, x: f64, y: f64) -> Answer
-    ensures { result ≡ look_up which (property_calls (fluid_numbered number) x y) (Refused UnknownMark) }
+// 10 to 18, properties at the temperature x and the density y; 20 to 22, estimates at the temperature x; 30 and 31, densities at the
+// temperature x and the pressure y.
+#[tactic(auto, unfolding(crate::specs::Calls::look_up))]
+fn answer_of_fluid(number: u32, which: u64, x: f64, y: f64) -> Answer
+    ensures { result ≡ look_up which (property_calls (fluid_numbered number) x y) (Err UnknownMark) }
 {
-    if which == 10 {
-        return pressure(number, x, y);
+    match which {
+        10 => pressure(number, x, y),
+        11 => energy(number, x, y),
+        12 => enthalpy(number, x, y),
+        13 => isochoric_heat_capacity(number, x, y),
+        14 => entropy(number, x, y),
+        15 => gibbs_energy(number, x, y),
+        16 => helmholtz_energy(number, x, y),
+        17 => isobaric_heat_capacity(number, x, y),
+        18 => sound_speed(number, x, y),
+        20 => saturation_pressure(number, x),
+        21 => saturated_liquid(number, x),
+        22 => saturated_vapour(number, x),
+        30 => plain_answer(number, x, y, Side::FromBelow),
+        31 => plain_answer(number, x, y, Side::FromAbove),
+        _ => Err(Refusal::UnknownMark),
     }
-    if which == 11 {
-        return energy(number, x, y);
-    }
-    if which == 12 {
-        return enthalpy(number, x, y);
-    }
-    if which == 13 {
-        return isochoric_heat_capacity(number, x, y);
-    }
-    if which == 14 {
-        return entropy(number, x, y);
-    }
-    if which == 15 {
-        return gibbs_energy(number, x, y);
-    }
-    if which == 16 {
-        return helmholtz_energy(number, x, y);
-    }
-    if which == 17 {
-        return isobaric_heat_capacity(number, x, y);
-    }
-    if which == 18 {
-        return sound_speed(number, x, y);
-    }
-    answer_from_20(number, which, x, y)
 }
 
-// 20 to 22, estimates at the temperature x.
-fn answer_from_20(number: u32, which: u64, x: f64, y: f64) -> Answer
-    ensures { result ≡ look_up which (estimate_calls (fluid_numbered number) x y) (Refused UnknownMark) }
-{
-    if which == 20 {
-        return saturation_pressure(number, x);
-    }
-    if which == 21 {
-        return saturated_liquid(number, x);
-    }
-    if which == 22 {
-        return saturated_vapour(number, x);
-    }
-    answer_from_30(number, which, x, y)
-}
-
-// 30 and 31, densities at the temperature x and the pressure y.
-fn answer_from_30(number: u32, which: u64, x: f64, y: f64) -> Answer
-    ensures { result ≡ look_up which (search_calls (fluid_numbered number) x y) (Refused UnknownMark) }
-{
-    if which == 30 {
-        return plain_answer(number, x, y, Side::FromBelow);
-    }
-    if which == 31 {
-        return plain_answer(number, x, y, Side::FromAbove);
-    }
-    Answer::Refused(Refusal::UnknownMark)
-}
-
-// The density alone, up to the fluid's own top; or 17 and as the plain search refuses.
+// The density alone, up to the fluid's own top; or 17 and as the plain search refuses. Beside the word of the same search and the quick search's
+// density, each a line over `own_top`: one for all would take the search and the part as closures.
 fn plain_answer(number: u32, t: f64, p: f64, side: Side) -> Answer
     ensures { result ≡ plain_answer (fluid_numbered number) side t p }
 {
-    let c = own_top(number);
-    found_answer(plain(number, t, p, c, side))
+    found_answer(plain(number, t, p, own_top(number), side))
 }

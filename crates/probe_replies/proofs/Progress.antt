@@ -1,18 +1,19 @@
--- Replies put into a list one after the other: how many bytes they take, what one more changes, and how many there are at the
+-- Replies put into a list one after the other: how many bytes they take, what one more changes, and what there is at the
 -- end.
 use mathlib.Core.Path.{◌≡◌, refl, ◌∙◌, ap}
 use mathlib.Core.List.{List, ◌++◌}
-use Prim.Native.Nat.{ℕ, ◌+◌, ◌-◌, ◌*◌, ◌≤◌, ◌<◌}
+use Prim.Native.Nat.{ℕ, ◌+◌, ◌-◌, ◌*◌, ◌≤◌}
 use native.Mathlib.Omega.{arith}
 use borrow.Rule.Slice.PartMut.{put_mid}
 use lib.ListN.{length, take, drop, length-append}
-use Rattle.probe_words.specs.declared.Reply.{Reply}
+use Rattle.std.specs.Prelude.{Result}
+use Rattle.refusals.specs.declared.Refusal.{Refusal}
 use Rattle.words.proofs.Tail.{tail_read}
 use Rattle.words.proofs.Written.{bytes_length}
 use Rattle.words.proofs.Blocks.{Blocks, Put, none_yet as none_put, whole_length, one_more_in_front}
 use Rattle.probe_replies.specs.Replies.{reply_bytes, reply_at, replies_of, reply_count, with_replies}
 
-reply_length : (r : Reply) → length (reply_bytes r) ≡ 16
+reply_length : (r : Result ℕ Refusal) → length (reply_bytes r) ≡ 16
 unfolding reply_bytes
 reply_length r = simp (length-append, bytes_length)
 
@@ -42,7 +43,7 @@ replies_inside s out now r p q =
     rw (p, q, whole_length 16 (replied s) (replies_of s) out (replies s out) (reply_count s out) (count_fits s out)) (count_fits s out)
 
 pub one_more :
-    (s out₀ out p : List ℕ) (k : ℕ) (a : Reply) → Answered s out₀ out k → 16 ≤ length out - 16 * k →
+    (s out₀ out p : List ℕ) (k : ℕ) (a : Result ℕ Refusal) → Answered s out₀ out k → 16 ≤ length out - 16 * k →
     a ≡ reply_at (take (length s - 24 * k) (drop (24 * k) s)) →
     p ≡ reply_bytes a ++ drop 16 (take (length out - 16 * k) (drop (16 * k) out)) →
     Answered s out₀ (put_mid (16 * k) (length out - 16 * k) out p) (k + 1)
@@ -50,18 +51,9 @@ unfolding replied
 one_more s out₀ out p k a h more q r =
     one_more_in_front 16 (replied s) (replies_of s) out₀ (replies s out₀) out k h p more
     (r
-    ∙ ap (λ (x : Reply). reply_bytes x ++ drop 16 (take (length out - 16 * k) (drop (16 * k) out))) (q ∙ ap reply_at (tail_read (24 * k) s)))
+    ∙ ap (λ (x : Result ℕ Refusal). reply_bytes x ++ drop 16 (take (length out - 16 * k) (drop (16 * k) out))) (q ∙ ap reply_at (tail_read (24 * k) s)))
 
--- there is no room for another, or no question is left
-module _ (s out₀ out : List ℕ) (k : ℕ) (h : Answered s out₀ out k) where
-  ended : k ≡ reply_count s out₀ → (16 * k ≡ 16 * reply_count s out₀) × (out ≡ with_replies s out₀)
-  unfolding with_replies
-  ended e = (ap (λ (n : ℕ). 16 * n) e, h.so_far ∙ ap (λ (n : ℕ). replies_of s n ++ drop (16 * n) out₀) e)
-
-  pub stopped : 24 * k < length s → length out - 16 * k < 16 → (16 * k ≡ 16 * reply_count s out₀) × (out ≡ with_replies s out₀)
-  unfolding reply_count
-  stopped b c = ended (omega arith)
-
-  pub finished : length s ≤ 24 * k → 24 * k < length s + 24 → (16 * k ≡ 16 * reply_count s out₀) × (out ≡ with_replies s out₀)
-  unfolding reply_count
-  finished b c = ended (omega arith)
+-- all are answered
+pub finished : (s out₀ out : List ℕ) (k : ℕ) → Answered s out₀ out k → k ≡ reply_count s out₀ → out ≡ with_replies s out₀
+unfolding with_replies
+finished s out₀ out k h e = h.so_far ∙ ap (λ (n : ℕ). replies_of s n ++ drop (16 * n) out₀) e

@@ -8,154 +8,84 @@ mod searches;
 
 ghost use Rattle.std.specs.Prelude.{◌≡◌, ◌++◌, ◌*◌, ◌≤◌, length, drop};
 ghost use Rattle.probe_replies.specs.Question.{answer_to, reply_to};
-ghost use Rattle.probe_replies.specs.Serving.{KeptFor, ServesCall, ServesNext, NextServed, Places};
-ghost use Rattle.probe_replies.specs.Replies.{reply_code, reply_second, reply_bytes, reply_at, reply_count, with_replies};
+ghost use Rattle.probe_replies.specs.Replies.{reply_bytes, reply_at, reply_count, with_replies};
 
 use probe_calls::{answer_of_numbers, fluid_number};
-use probe_words::{Reply, asked_word, number_reply};
-use refusals::{Answer, Refusal, code};
+use probe_words::{asked_word, number_reply};
+use refusals::{Answer, Refusal, answer_code};
 use search::Side;
-use searches::{Isotherm, NO_FLUID, places, prepare_for, quick_answer};
+use searches::Lists;
 use words::{number, put_word, word};
 
-// The answer of the call of that number at the numbers of the two bit patterns, over lists that serve it.
-fn answer_over(call: u64, first: u64, second: u64, greatest: &[f64], least: &[f64]) -> Answer
-    requires { ServesCall call first greatest.now least.now }
+// The answer of the call of that number at the numbers of the two bit patterns. The three words of a question are handed on as they were read,
+// here and below: a number that is no call's is one, too, and gets 14.
+#[tactic(auto, unfolding(crate::specs::Question::answer_to, probe_calls::specs::Calls::look_up))]
+fn answer_over(call: u64, first: u64, second: u64, lists: &mut Lists) -> Answer
     ensures { result ≡ answer_to call first second }
 {
-    let x = number(first);
-    let y = number(second);
-    let fluid = fluid_number(call);
-    let which = call % 100;
-    if which == 32 {
-        return quick_answer(fluid, x, y, Side::FromBelow, greatest, least);
+    match call % 100 {
+        32 => lists.quick_answer(fluid_number(call), first, number(second), Side::FromBelow),
+        33 => lists.quick_answer(fluid_number(call), first, number(second), Side::FromAbove),
+        _ => answer_of_numbers(call, number(first), number(second)),
     }
-    if which == 33 {
-        return quick_answer(fluid, x, y, Side::FromAbove, greatest, least);
-    }
-    answer_of_numbers(call, x, y)
 }
 
 // The reply of the call of that number: the word of a search, or the number that it answers with.
-fn reply_over(call: u64, first: u64, second: u64, greatest: &[f64], least: &[f64]) -> Reply
-    requires { ServesCall call first greatest.now least.now }
+#[tactic(auto, unfolding(crate::specs::Question::reply_to, probe_calls::specs::Calls::look_up))]
+fn reply_over(call: u64, first: u64, second: u64, lists: &mut Lists) -> Result<u64, Refusal>
     ensures { result ≡ reply_to call first second }
 {
-    let which = call % 100;
-    if which == 34 {
-        return asked_word(call, first, second, Side::FromBelow);
+    match call % 100 {
+        34 => asked_word(call, first, second, Side::FromBelow),
+        35 => asked_word(call, first, second, Side::FromAbove),
+        _ => number_reply(answer_over(call, first, second, lists)),
     }
-    if which == 35 {
-        return asked_word(call, first, second, Side::FromAbove);
-    }
-    number_reply(answer_over(call, first, second, greatest, least))
-}
-
-// Prepares the lists if the call is over lists, and replies.
-fn reply_fresh(call: u64, first: u64, second: u64, greatest: &mut [f64], least: &mut [f64]) -> Reply
-    requires { Places greatest.old least.old }
-    ensures { result ≡ reply_to call first second }
-{
-    let kept = prepare_for(call, first, NO_FLUID, greatest, least);
-    reply_over(call, first, second, greatest, least)
 }
 
 // The reply of the call of that number at the numbers of the two bit patterns.
-pub fn reply_to(call: u64, first: u64, second: u64) -> Reply
+pub fn reply_to(call: u64, first: u64, second: u64) -> Result<u64, Refusal>
     ensures { result ≡ reply_to call first second }
 {
-    let mut greatest = places();
-    let mut least = places();
-    reply_fresh(call, first, second, &mut greatest, &mut least)
+    let mut lists = Lists::new();
+    reply_over(call, first, second, &mut lists)
 }
 
-// 0, or the refusal's number.
-fn reply_code(reply: Reply) -> u32
-    ensures { result ≡ reply_code reply }
-{
-    match reply {
-        Reply::Holds(_) => 0,
-        Reply::Refused(r) => code(r),
-    }
-}
-
-// The second word, and all ones where refused.
-fn reply_second(reply: Reply) -> u64
-    ensures { result ≡ reply_second reply }
-{
-    match reply {
-        Reply::Holds(second) => second,
-        Reply::Refused(_) => 18446744073709551615,
-    }
-}
-
-// Prepares the lists for the next question, at the front of a slice, if it is over lists and they serve another fluid or temperature; what
-// they serve afterwards.
-fn prepare_next(next: &[u8], kept: Isotherm, greatest: &mut [f64], least: &mut [f64]) -> Isotherm
-    requires { KeptFor kept greatest.old least.old }
-    ensures { NextServed next.now result greatest.new least.new }
-{
-    if next.len() < 24 {
-        return kept;
-    }
-    let call = word(next);
-    let first = word(&next[8..]);
-    prepare_for(call, first, kept, greatest, least)
-}
-
-// The reply to the question at the front of s, over lists that serve it; 15 where s is shorter than a question.
-fn reply_at(s: &[u8], greatest: &[f64], least: &[f64]) -> Reply
-    requires { ServesNext s.now greatest.now least.now }
+// The reply to the question at the front of s; 15 where s is shorter than a question.
+fn reply_at(s: &[u8], lists: &mut Lists) -> Result<u64, Refusal>
     ensures { result ≡ reply_at s.now }
 {
     if s.len() < 24 {
-        return Reply::Refused(Refusal::CutShort);
+        return Err(Refusal::CutShort);
     }
     let call = word(s);
     let first = word(&s[8..]);
     let second = word(&s[16..]);
-    reply_over(call, first, second, greatest, least)
+    reply_over(call, first, second, lists)
 }
 
-// The reply's bytes into the first 16 places.
-fn put_reply(out: &mut [u8], reply: Reply)
+// The reply's bytes into the first 16 places: the code, then the second word, all ones where refused, as the probe's replies have it (definition
+// `reply_second`). Not into an array of sixteen: the output is lent, and its rest stays as it was.
+fn put_reply(out: &mut [u8], reply: Result<u64, Refusal>)
     requires { 16 ≤ length out.old }
     ensures { out.new ≡ reply_bytes reply ++ drop 16 out.old }
 {
-    let code = reply_code(reply) as u64;
+    let code = answer_code(reply) as u64;
     put_word(out, code);
-    put_word(&mut out[8..], reply_second(reply));
-}
-
-// The replies, with two lists that are kept while the fluid and the bits of the temperature stay the same.
-fn put_replies_over(input: &[u8], out: &mut [u8], greatest: &mut [f64], least: &mut [f64]) -> usize
-    requires { Places greatest.old least.old }
-    ensures value { result ≡ 16 * reply_count input.now out.old }
-    ensures out_after { out.new ≡ with_replies input.now out.old }
-{
-    let mut kept = NO_FLUID;
-    let mut k: usize = 0;
-    while 24 * k < input.len() {
-        let from = 24 * k;
-        let to = 16 * k;
-        if out.len() - to < 16 {
-            return to;
-        }
-        kept = prepare_next(&input[from..], kept, greatest, least);
-        let reply = reply_at(&input[from..], greatest, least);
-        put_reply(&mut out[to..], reply);
-        k += 1;
-    }
-    16 * k
+    put_word(&mut out[8..], reply.unwrap_or(u64::MAX));
 }
 
 // The replies to the questions of input, one after the other, into out, as long as there is room,
-// and how many bytes they take. A piece shorter than a question at the end gets one reply, 15.
+// and how many bytes they take. A piece shorter than a question at the end gets one reply, 15. A question is read at its place, and not out of
+// `chunks(24)`, since the definition `reply_at` gives 15 of what is left there, whatever its length.
 pub fn put_replies(input: &[u8], out: &mut [u8]) -> usize
     ensures value { result ≡ 16 * reply_count input.now out.old }
     ensures out_after { out.new ≡ with_replies input.now out.old }
 {
-    let mut greatest = places();
-    let mut least = places();
-    put_replies_over(input, out, &mut greatest, &mut least)
+    let count = input.len().div_ceil(24).min(out.len() / 16);
+    let mut lists = Lists::new();
+    for k in 0..count {
+        let reply = reply_at(&input[24 * k..], &mut lists);
+        put_reply(&mut out[16 * k..], reply);
+    }
+    16 * count
 }

@@ -14,47 +14,32 @@ use refusals::{Answer, Refusal};
 use search::{Found, Side};
 use words::{bits, number};
 
-// The second word of a reply, or a refusal, which has none.
-#[derive(Clone, Copy)]
-pub enum Reply {
-    Holds(u64),
-    Refused(Refusal),
-}
-
 // A number as its bits.
-pub fn number_reply(a: Answer) -> Reply
+pub fn number_reply(a: Answer) -> Result<u64, Refusal>
     ensures { result ≡ number_reply a }
 {
-    match a {
-        Answer::Number(x) => Reply::Holds(bits(x)),
-        Answer::Refused(r) => Reply::Refused(r),
-    }
+    Ok(bits(a?))
 }
 
 // The word of a search as its number.
-fn word_reply(found: Found) -> Reply
+fn word_reply(found: Result<Found, Refusal>) -> Result<u64, Refusal>
     ensures { result ≡ word_reply found }
 {
-    match found {
-        Found::State(_, word) => Reply::Holds(word_number(word)),
-        Found::Refused(r) => Reply::Refused(r),
-    }
+    Ok(word_number(found?.word))
 }
 
-// The word of the plain search, up to the fluid's own top; or 17 and as the search refuses.
-fn plain_word(fluid: u32, t: f64, p: f64, side: Side) -> Reply
+// The word of the plain search, up to the fluid's own top; or 17 and as the search refuses. As the crate probe_calls answers with its density.
+#[tactic(auto, unfolding(crate::specs::Reply::plain_word))]
+fn plain_word(fluid: u32, t: f64, p: f64, side: Side) -> Result<u64, Refusal>
     ensures { result ≡ plain_word (fluid_numbered fluid) side t p }
 {
-    let c = own_top(fluid);
-    word_reply(plain(fluid, t, p, c, side))
+    word_reply(plain(fluid, t, p, own_top(fluid), side))
 }
 
 // The same of the fluid that a call asks, at the numbers of two bit patterns.
-pub fn asked_word(call: u64, first: u64, second: u64, side: Side) -> Reply
+#[tactic(auto, unfolding(crate::specs::Reply::plain_word))]
+pub fn asked_word(call: u64, first: u64, second: u64, side: Side) -> Result<u64, Refusal>
     ensures { result ≡ plain_word (fluid_numbered (call / 100)) side (of_bits binary64 first) (of_bits binary64 second) }
 {
-    let t = number(first);
-    let p = number(second);
-    let fluid = fluid_number(call);
-    plain_word(fluid, t, p, side)
+    plain_word(fluid_number(call), number(first), number(second), side)
 }

@@ -2,6 +2,7 @@
 use mathlib.Core.Path.{sym, ◌∙◌}
 use mathlib.Core.List.{List}
 use Prim.Native.Nat.{ℕ}
+use Rattle.refusals.proofs.ReadBack.{same_permit}
 use Rattle.promises.specs.OneOutcome.{OneResult, OneOutcome}
 use Rattle.promises.proofs.AsOne.{as_one}
 use Rattle.coexistence.proofs.accept.Kinds as accept_kinds
@@ -19,4 +20,4 @@ saturation_pair_one κs a x y e f p q = p ∙ sym q
 
 -- the output as well
 pub saturation_into_one : OneOutcome _ saturation_into_kinds.ps saturation_into_kinds.r (List ℕ) (λ κs e. e.1.1.0.now) saturation_into_reads.Learnt
-saturation_into_one κs a x y e f p q = as_one p q
+saturation_into_one κs a x y e f p q = let both = as_one p q in (same_permit both.0, both.1)

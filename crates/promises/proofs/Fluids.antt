@@ -1,8 +1,9 @@
 -- Each public call of the crate `fluids` promises one outcome: its contract gives it by a definition of its arguments.
 use mathlib.Core.Path.{sym, ◌∙◌}
-use Rattle.promises.specs.OneOutcome.{OneResult}
-use Rattle.fluids.proofs.fluid_numbered.Kinds as fluid_numbered_kinds
-use Rattle.fluids.proofs.fluid_numbered.Reads as fluid_numbered_reads
+use Rattle.promises.specs.OneOutcome.{OneResult, OneSlice}
+use Rattle.fluids.specs.declared.Estimate.{Estimate}
+use Rattle.fluids.proofs.FluidTryFromU32.try_from.Kinds as try_from_kinds
+use Rattle.fluids.proofs.FluidTryFromU32.try_from.Reads as try_from_reads
 use Rattle.fluids.proofs.letter.Kinds as letter_kinds
 use Rattle.fluids.proofs.letter.Reads as letter_reads
 use Rattle.fluids.proofs.fluid_lettered.Kinds as fluid_lettered_kinds
@@ -13,13 +14,11 @@ use Rattle.fluids.proofs.terms.Kinds as terms_kinds
 use Rattle.fluids.proofs.terms.Reads as terms_reads
 use Rattle.fluids.proofs.pairs.Kinds as pairs_kinds
 use Rattle.fluids.proofs.pairs.Reads as pairs_reads
-use Rattle.fluids.proofs.estimate_count.Kinds as estimate_count_kinds
-use Rattle.fluids.proofs.estimate_count.Reads as estimate_count_reads
 use Rattle.fluids.proofs.estimate_terms.Kinds as estimate_terms_kinds
 use Rattle.fluids.proofs.estimate_terms.Reads as estimate_terms_reads
 
-pub fluid_numbered_one : OneResult _ fluid_numbered_kinds.ps fluid_numbered_kinds.r fluid_numbered_reads.Learnt
-fluid_numbered_one κs a x y e f p q = p ∙ sym q
+pub try_from_one : OneResult _ try_from_kinds.ps try_from_kinds.r try_from_reads.Learnt
+try_from_one κs a x y e f p q = p ∙ sym q
 
 pub letter_one : OneResult _ letter_kinds.ps letter_kinds.r letter_reads.Learnt
 letter_one κs a x y e f p q = p ∙ sym q
@@ -36,8 +35,5 @@ terms_one κs a x y e f p q = p ∙ sym q
 pub pairs_one : OneResult _ pairs_kinds.ps pairs_kinds.r pairs_reads.Learnt
 pairs_one κs a x y e f p q = p ∙ sym q
 
-pub estimate_count_one : OneResult _ estimate_count_kinds.ps estimate_count_kinds.r estimate_count_reads.Learnt
-estimate_count_one κs a x y e f p q = p ∙ sym q
-
-pub estimate_terms_one : OneResult _ estimate_terms_kinds.ps estimate_terms_kinds.r estimate_terms_reads.Learnt
+pub estimate_terms_one : OneSlice _ estimate_terms_kinds.ps estimate_terms_kinds.r Estimate (λ κs terms. terms.now) estimate_terms_reads.Learnt
 estimate_terms_one κs a x y e f p q = p ∙ sym q

@@ -30,5 +30,6 @@ pub mod Lines
 pub mod Runs
 pub mod Writing
 pub mod Verriblom
+pub mod Blocks
 pub mod Probe
 pub mod Bench

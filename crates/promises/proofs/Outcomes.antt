@@ -1,10 +1,6 @@
 -- Each public call of the crate `outcomes` promises one outcome: its contract gives it by a definition of its arguments.
 use mathlib.Core.Path.{sym, ◌∙◌}
 use Rattle.promises.specs.OneOutcome.{OneResult}
-use Rattle.outcomes.proofs.found_code.Kinds as found_code_kinds
-use Rattle.outcomes.proofs.found_code.Reads as found_code_reads
-use Rattle.outcomes.proofs.prepared_code.Kinds as prepared_code_kinds
-use Rattle.outcomes.proofs.prepared_code.Reads as prepared_code_reads
 use Rattle.outcomes.proofs.found_answer.Kinds as found_answer_kinds
 use Rattle.outcomes.proofs.found_answer.Reads as found_answer_reads
 use Rattle.outcomes.proofs.found_bits.Kinds as found_bits_kinds
@@ -13,12 +9,6 @@ use Rattle.outcomes.proofs.word_number.Kinds as word_number_kinds
 use Rattle.outcomes.proofs.word_number.Reads as word_number_reads
 use Rattle.outcomes.proofs.found_word.Kinds as found_word_kinds
 use Rattle.outcomes.proofs.found_word.Reads as found_word_reads
-
-pub found_code_one : OneResult _ found_code_kinds.ps found_code_kinds.r found_code_reads.Learnt
-found_code_one κs a x y e f p q = p ∙ sym q
-
-pub prepared_code_one : OneResult _ prepared_code_kinds.ps prepared_code_kinds.r prepared_code_reads.Learnt
-prepared_code_one κs a x y e f p q = p ∙ sym q
 
 pub found_answer_one : OneResult _ found_answer_kinds.ps found_answer_kinds.r found_answer_reads.Learnt
 found_answer_one κs a x y e f p q = p ∙ sym q

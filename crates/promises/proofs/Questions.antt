@@ -2,6 +2,7 @@
 use mathlib.Core.Path.{sym, ◌∙◌}
 use mathlib.Core.List.{List}
 use Prim.Native.Nat.{ℕ}
+use Rattle.refusals.proofs.ReadBack.{same_permit}
 use Rattle.promises.specs.OneOutcome.{OneResult, OneOutcome}
 use Rattle.questions.proofs.asked.Kinds as asked_kinds
 use Rattle.questions.proofs.asked.Reads as asked_reads
@@ -23,4 +24,4 @@ answer_one κs a x y e f p q = p ∙ sym q
 
 -- the bytes as well
 pub answer_into_one : OneOutcome _ answer_into_kinds.ps answer_into_kinds.r (List ℕ) (λ κs e. e.1.0.now) answer_into_reads.Learnt
-answer_into_one κs a x y e f p q = (p.0 ∙ sym q.0, p.1 ∙ sym q.1)
+answer_into_one κs a x y e f p q = (same_permit (p.0 ∙ sym q.0), p.1 ∙ sym q.1)

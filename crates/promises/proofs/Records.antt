@@ -5,8 +5,10 @@ use Prim.Native.Nat.{ℕ}
 use Rattle.promises.specs.OneOutcome.{OneResult, OneOutcome, OneBytes}
 use Rattle.records.proofs.read.Kinds as read_kinds
 use Rattle.records.proofs.read.Reads as read_reads
-use Rattle.records.proofs.kind_lettered.Kinds as kind_lettered_kinds
-use Rattle.records.proofs.kind_lettered.Reads as kind_lettered_reads
+use Rattle.records.proofs.mark.U8FromKind.from.Kinds as from_kinds
+use Rattle.records.proofs.mark.U8FromKind.from.Reads as from_reads
+use Rattle.records.proofs.mark.KindTryFromU32.try_from.Kinds as try_from_kinds
+use Rattle.records.proofs.mark.KindTryFromU32.try_from.Reads as try_from_reads
 use Rattle.records.proofs.put_record.Kinds as put_record_kinds
 use Rattle.records.proofs.put_record.Reads as put_record_reads
 use Rattle.records.proofs.record_count.Kinds as record_count_kinds
@@ -17,8 +19,11 @@ use Rattle.records.proofs.record_at.Reads as record_at_reads
 pub read_one : OneResult _ read_kinds.ps read_kinds.r read_reads.Learnt
 read_one κs a x y e f p q = p ∙ sym q
 
-pub kind_lettered_one : OneResult _ kind_lettered_kinds.ps kind_lettered_kinds.r kind_lettered_reads.Learnt
-kind_lettered_one κs a x y e f p q = p ∙ sym q
+pub from_one : OneResult _ from_kinds.ps from_kinds.r from_reads.Learnt
+from_one κs a x y e f p q = p ∙ sym q
+
+pub try_from_one : OneResult _ try_from_kinds.ps try_from_kinds.r try_from_reads.Learnt
+try_from_one κs a x y e f p q = p ∙ sym q
 
 -- the bytes as well
 pub put_record_one : OneOutcome _ put_record_kinds.ps put_record_kinds.r (List ℕ) (λ κs e. e.1.1.1.1.0.now) put_record_reads.Learnt

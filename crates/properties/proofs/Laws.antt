@@ -8,10 +8,9 @@ use lib.Ieee.Fits.{and_l, and_r}
 use lib.Ieee.Scale.{finite}
 use lib.Ieee.Positive.{positive}
 use lib.Ieee.Positive as Positive
+use Rattle.std.specs.Prelude.{Ok, Err}
 use Rattle.refusals.specs.declared.Refusal.TheVariants.{WorkNotFinite}
-use Rattle.refusals.specs.declared.Permit.TheVariants.{Granted}
-use Rattle.refusals.specs.declared.Answer.{Answer}
-use Rattle.refusals.specs.declared.Answer.TheVariants.{Number, Refused}
+use Rattle.refusals.specs.Answer.{Answer}
 use Rattle.refusals.proofs.Needed.{permitted_granted}
 use Rattle.refusals.proofs.Tests.{holds}
 use Rattle.arithmetic.specs.Checked.{real, squash, between, ◌⊗◌}
@@ -28,19 +27,19 @@ use Rattle.properties.specs.Calls.{worked_density, pressure_of}
 use Rattle.inputs.specs.Inputs.{state_permit}
 use Rattle.properties.proofs.Permits.{state_temperature}
 
-number_or_12 : (v : Float) → ((x : Float) × T (finite x) × (answer_from v ≡ Number x)) ⊎ (answer_from v ≡ Refused WorkNotFinite)
+number_or_12 : (v : Float) → ((x : Float) × T (finite x) × (answer_from v ≡ Ok x)) ⊎ (answer_from v ≡ Err WorkNotFinite)
 number_or_12 nan = inr refl
 number_or_12 (inf s) = inr refl
 number_or_12 (fin s m e) = inl (fin s m e, tt, refl)
 
-module _ (F : Fluid) (t ρ : Float) (granted : state_permit F t ρ ≡ Granted) where
+module _ (F : Fluid) (t ρ : Float) (granted : state_permit F t ρ ≡ (Ok tt)) where
   worked : pressure_of F t ρ ≡ answer_from (pressure_at (kept_of F t) (worked_density ρ))
   unfolding pressure_of pressure_at
   worked = permitted_granted _ _ granted
 
   -- in range the pressure is a finite number, or 12
-  pub pressure_answers : ((x : Float) × T (finite x) × (pressure_of F t ρ ≡ Number x)) ⊎ (pressure_of F t ρ ≡ Refused WorkNotFinite)
-  pressure_answers = subst (λ (a : Answer). ((x : Float) × T (finite x) × (a ≡ Number x)) ⊎ (a ≡ Refused WorkNotFinite)) (sym worked) (number_or_12 (pressure_at (kept_of F t) (worked_density ρ)))
+  pub pressure_answers : ((x : Float) × T (finite x) × (pressure_of F t ρ ≡ Ok x)) ⊎ (pressure_of F t ρ ≡ Err WorkNotFinite)
+  pressure_answers = subst (λ (a : Answer). ((x : Float) × T (finite x) × (a ≡ Ok x)) ⊎ (a ≡ Err WorkNotFinite)) (sym worked) (number_or_12 (pressure_at (kept_of F t) (worked_density ρ)))
 
 -- at density 0 it is +0, or 12
 positive_not_negative : (x : Float) → T (positive x) → NotNegative x
@@ -62,7 +61,7 @@ temperature_positive F t p =
     (and_l least greatest inside)
     (and_r least greatest inside)
 
-zero_answer : (v : Float) → PlusZero v → (answer_from v ≡ Number (real 0)) ⊎ (answer_from v ≡ Refused WorkNotFinite)
+zero_answer : (v : Float) → PlusZero v → (answer_from v ≡ Ok (real 0)) ⊎ (answer_from v ≡ Err WorkNotFinite)
 unfolding of_int round
 zero_answer v (inl p) = inl (rw p refl)
 zero_answer v (inr p) = inr (rw p refl)
@@ -71,7 +70,7 @@ worked_0 : worked_density (real 0) ≡ real 0
 unfolding worked_density eq of_int round
 worked_0 = refl
 
-module _ (F : Fluid) (t : Float) (g : state_permit F t (real 0) ≡ Granted) where
+module _ (F : Fluid) (t : Float) (g : state_permit F t (real 0) ≡ (Ok tt)) where
   amount : NotNegative ((entry_of F).R ⊗ t)
   amount =
       product_not_negative (entry_of F).R t (positive_not_negative (entry_of F).R (sound F).positive_R)
@@ -80,8 +79,8 @@ module _ (F : Fluid) (t : Float) (g : state_permit F t (real 0) ≡ Granted) whe
   vanishes : PlusZero (pressure_at (kept_of F t) (real 0))
   vanishes = pressure_at_0 (kept_of F t) (rw (kept_fluid, (sound F).zero_δ) zero_vanishes) (rw (kept_fluid, kept_t) amount)
 
-  pub pressure_at_zero_density : (pressure_of F t (real 0) ≡ Number (real 0)) ⊎ (pressure_of F t (real 0) ≡ Refused WorkNotFinite)
+  pub pressure_at_zero_density : (pressure_of F t (real 0) ≡ Ok (real 0)) ⊎ (pressure_of F t (real 0) ≡ Err WorkNotFinite)
   pressure_at_zero_density =
-      subst (λ (a : Answer). (a ≡ Number (real 0)) ⊎ (a ≡ Refused WorkNotFinite))
+      subst (λ (a : Answer). (a ≡ Ok (real 0)) ⊎ (a ≡ Err WorkNotFinite))
       (sym (worked F t (real 0) g ∙ ap (λ (ρ : Float). answer_from (pressure_at (kept_of F t) ρ)) worked_0))
       (zero_answer _ vanishes)

@@ -2,7 +2,7 @@
 use mathlib.Core.Path.{◌≡◌}
 use mathlib.Core.Bool.{true}
 use lib.Ieee.{Float}
-use Rattle.refusals.specs.declared.Permit.TheVariants.{Granted}
+use Rattle.std.specs.Prelude.{Ok}
 use Rattle.arithmetic.specs.Checked.{between}
 use Rattle.fluids.specs.declared.Fluid.{Fluid}
 use Rattle.fluids.specs.Entries.{entry_of}
@@ -14,7 +14,7 @@ use Rattle.inputs.proofs.Passed.{state_passed}
 use Rattle.properties.specs.Calls.{stable_of, stability_permit}
 
 module _ (F : Fluid) (t ρ : Float) where
-  pub state_temperature : state_permit F t ρ ≡ Granted → between (entry_of F).least_T t (entry_of F).greatest_T ≡ true
+  pub state_temperature : state_permit F t ρ ≡ Ok tt → between (entry_of F).least_T t (entry_of F).greatest_T ≡ true
   state_temperature p = let (numbers, (temperature, rest)) = state_passed F t ρ p in temperature
 
 -- a stability's permit is that of the state that it is of

@@ -3,8 +3,8 @@ use Rattle.std.specs.Prelude.{cond, not, ◌&&◌, [], ◌∷◌, Float}
 use Rattle.std.specs.Float.Ieee.{le, eq}
 use Rattle.std.specs.Float.Ieee.Scale.{finite}
 use Rattle.refusals.specs.declared.Refusal.TheVariants.{NotStable, WorkNotFinite}
-use Rattle.refusals.specs.declared.Permit.{Permit}
-use Rattle.refusals.specs.declared.Answer.{Answer}
+use Rattle.refusals.specs.Answer.{Permit}
+use Rattle.refusals.specs.Answer.{Answer}
 use Rattle.refusals.specs.Order.{first_of, permitted}
 use Rattle.arithmetic.specs.Checked.{real}
 use Rattle.arithmetic.specs.Answered.{answer_from}

@@ -7,9 +7,10 @@ use lib.Dec.{T}
 use lib.Ieee.{Float, nan, inf, fin}
 use lib.Ieee.Exact.{HasValue}
 use lib.Ieee.Scale.{finite}
-use Rattle.refusals.specs.declared.Permit.{Permit}
-use Rattle.refusals.specs.declared.Permit.TheVariants.{Granted, Denied}
-use Rattle.refusals.specs.declared.Answer.{Answer}
+use Rattle.std.specs.Prelude.{Result, Ok, Err}
+use Rattle.refusals.specs.declared.Refusal.{Refusal}
+use Rattle.refusals.specs.Answer.{Permit}
+use Rattle.refusals.specs.Answer.{Answer}
 use Rattle.refusals.specs.Order.{permitted}
 use Rattle.arithmetic.specs.Answered.{answer_from}
 use Rattle.arithmetic.proofs.Answered.{HandsOutFinite, answer_from_hands_out_finite}
@@ -20,8 +21,6 @@ use Rattle.equation.specs.State.{state_at, pressure_value}
 use Rattle.kept.proofs.Parts.{kept_fluid}
 use Rattle.properties.specs.Calls.{worked_density, pressure_of}
 use Rattle.inputs.specs.Inputs.{state_permit}
-use Rattle.search.specs.declared.Located.{Located}
-use Rattle.search.specs.declared.Located.TheVariants.{At, Refused}
 use Rattle.search.specs.declared.Side.{Side}
 use Rattle.steps.specs.Steps.{step_density_of}
 use Rattle.inputs.specs.Inputs.{search_permit}
@@ -39,8 +38,8 @@ use Rattle.questions.specs.Asked.{question_of, density_at, work_of, answer_of}
 use Rattle.questions.specs.Call.{permit_of, call_of}
 
 permitted_finite : (p : Permit) (a : Answer) → HandsOutFinite a → HandsOutFinite (permitted p a)
-permitted_finite Granted a h = h
-permitted_finite (Denied r) a h = tt
+permitted_finite (Ok _) a h = h
+permitted_finite (Err r) a h = tt
 
 pressure_finite : (F : Fluid) (T ρ : Float) → HandsOutFinite (pressure_of F T ρ)
 unfolding pressure_of
@@ -53,10 +52,10 @@ value_finite nan s n d h = absurd h
 value_finite (inf t) s n d h = absurd h
 value_finite (fin t m e) s n d h = tt
 
-place_finite : (F : Fluid) (T : Float) (x : Located) → StepInside x → HandsOutFinite (found_answer_of (found_state_of F T x))
+place_finite : (F : Fluid) (T : Float) (x : Result ℕ Refusal) → StepInside x → HandsOutFinite (found_answer_of (found_state_of F T x))
 unfolding found_state_of
-place_finite F T (At k) h = value_finite (step_density_of k) _ _ _ (step_exact k h)
-place_finite F T (Refused r) h = tt
+place_finite F T (Ok k) h = value_finite (step_density_of k) _ _ _ (step_exact k h)
+place_finite F T (Err r) h = tt
 
 density_finite : (F : Fluid) (T P : Float) (side : Side) → HandsOutFinite (density_at F T P side)
 unfolding density_at plain_of
@@ -64,17 +63,17 @@ density_finite F T P side = go (search_permit F T P (entry_of F).top_cells true)
   where
     go : (i : Permit) → search_permit F T P (entry_of F).top_cells true ≡ i →
         HandsOutFinite (found_answer_of (searched i (found_state_of F T (plain_step_of side (pressures_of F T) P (entry_of F).top_cells))))
-    go (Denied r) e = tt
-    go Granted e =
+    go (Err r) e = tt
+    go (Ok _) e =
         let c = (entry_of F).top_cells in
         let asked = question F T P c true e (kept_of F T) (kept_fluid F T) in
         let p = pressures_of F T in
         place_finite F T (plain_step_of side p P c) (plain_inside p P c asked.top side)
 
-work_finite : (asked : Question) → HandsOutFinite (work_of asked)
-work_finite (State F T ρ) = pressure_finite F T ρ
-work_finite (Search F T P side) = density_finite F T P side
-work_finite (Question.Refused r) = tt
+work_finite : (asked : Result Question Refusal) → HandsOutFinite (work_of asked)
+work_finite (Ok (State F T ρ)) = pressure_finite F T ρ
+work_finite (Ok (Search F T P side)) = density_finite F T P side
+work_finite (Err r) = tt
 
 pub answer_finite : (s : List ℕ) → HandsOutFinite (answer_of s)
 unfolding answer_of

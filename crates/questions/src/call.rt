@@ -1,61 +1,42 @@
 // 01's order before the work: 15, 14, 1, 2, 3, 4, 5, 7; then the work, and its number into the output.
 ghost use Rattle.std.specs.Prelude.{◌≡◌};
 ghost use Rattle.refusals.specs.Code.{answer_code_of};
-ghost use Rattle.questions.specs.Call.{inputs_of, permit_of, output_of, call_code, call_output};
+ghost use Rattle.questions.specs.Call.{inputs_of, permit_of, call_code, call_output};
 
 use crate::Question;
 use crate::work::{asked, worked};
 use inputs::{asked_inputs, state_inputs};
 use records::read;
-use refusals::{Answer, Permit, Refusal, code, tested};
+use refusals::{Permit, Refusal, tested};
 use words::{bits, put_word};
 
 // 15, 14, 1, 2, 3, 4, 5.
-fn inputs(question: Question) -> Permit
+fn inputs(question: Result<Question, Refusal>) -> Permit
     ensures { result ≡ inputs_of question }
 {
-    match question {
+    match question? {
         Question::State(fluid, t, rho) => state_inputs(fluid, t, rho),
         Question::Search(fluid, t, p, _) => asked_inputs(fluid, t, p),
-        Question::Refused(r) => Permit::Denied(r),
     }
 }
 
 // 7 after those, where the output has less than 8 bytes.
-fn permit(question: Question, room: usize) -> Permit
+fn permit(question: Result<Question, Refusal>, room: usize) -> Permit
     ensures { result ≡ permit_of question room }
 {
     let before = inputs(question);
     tested(before, 8 <= room, Refusal::TooShort)
 }
 
-// The number's bits into the first eight bytes; a refusal leaves the output as it is. The code.
-fn handed_out(a: Answer, out: &mut [u8]) -> u32
-    ensures { (result ≡ answer_code_of a) × (out.new ≡ output_of a out.old) }
-{
-    match a {
-        Answer::Number(x) => {
-            put_word(out, bits(x));
-            0
-        }
-        Answer::Refused(r) => code(r),
-    }
-}
-
-// Answers a record of exactly 18 bytes, of the fluid of its mark, up to that fluid's own top where it searches: 0, and the bits of the pressure in Pa or
-// of the density in mol/dm³ in the first eight bytes of out, the lowest first; or the refusal's number, and out as it was.
-pub fn answer_into(marked: &[u8], out: &mut [u8]) -> u32
-    ensures { (result ≡ call_code marked.now out.old)
+// Answers a record of exactly 18 bytes, of the fluid of its mark, up to that fluid's own top where it searches: the bits of the pressure in Pa or of
+// the density in mol/dm³ in the first eight bytes of out, the lowest first; or the refusal, and out as it was.
+pub fn answer_into(marked: &[u8], out: &mut [u8]) -> Result<(), Refusal>
+    ensures { (answer_code_of result ≡ call_code marked.now out.old)
         × (out.new ≡ call_output marked.now out.old) }
 {
     let question = asked(read(marked));
-    let room = out.len();
-    let permitted = permit(question, room);
-    match permitted {
-        Permit::Denied(r) => code(r),
-        Permit::Granted => {
-            let a = worked(question);
-            handed_out(a, out)
-        }
-    }
+    permit(question, out.len())?;
+    let x = worked(question)?;
+    put_word(out, bits(x));
+    Ok(())
 }

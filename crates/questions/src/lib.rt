@@ -8,7 +8,6 @@ mod work;
 
 pub use call::answer_into;
 use fluids::Fluid;
-use refusals::Refusal;
 use search::Side;
 pub use work::{answer, asked, density_at};
 
@@ -19,6 +18,4 @@ pub enum Question {
     State(Fluid, f64, f64),
     // its density at T and P, from a side
     Search(Fluid, f64, f64, Side),
-    // nothing: 15, 14 or 1
-    Refused(Refusal),
 }

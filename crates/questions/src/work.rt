@@ -13,31 +13,29 @@ use search::Side;
 use words::number;
 
 // What two numbers of a kind ask of a fluid: no side given is taken from below, and a no-reading record asks nothing, 1.
-fn asked_by(fluid: Fluid, kind: Kind, t: f64, x: f64) -> Question
+fn asked_by(fluid: Fluid, kind: Kind, t: f64, x: f64) -> Result<Question, Refusal>
     ensures { result ≡ asked_by fluid kind t x }
 {
     match kind {
-        Kind::Density => Question::State(fluid, t, x),
-        Kind::FromBelow => Question::Search(fluid, t, x, Side::FromBelow),
-        Kind::FromAbove => Question::Search(fluid, t, x, Side::FromAbove),
-        Kind::NoSide => Question::Search(fluid, t, x, Side::FromBelow),
-        Kind::NoReading => Question::Refused(Refusal::NoReading),
+        Kind::Density => Ok(Question::State(fluid, t, x)),
+        Kind::FromBelow => Ok(Question::Search(fluid, t, x, Side::FromBelow)),
+        Kind::FromAbove => Ok(Question::Search(fluid, t, x, Side::FromAbove)),
+        Kind::NoSide => Ok(Question::Search(fluid, t, x, Side::FromBelow)),
+        Kind::NoReading => Err(Refusal::NoReading),
     }
 }
 
-// What a record asks, or its refusal: 15, 14, 1.
-pub fn asked(marked: Record) -> Question
+// What a record asks, or its refusal: 15, 14, 1. A function, and no `TryFrom<Record>`: the record may not have been read (definition `asked_of`).
+pub fn asked(marked: Result<Record, Refusal>) -> Result<Question, Refusal>
     ensures { result ≡ asked_of marked }
 {
-    match marked {
-        Record::Marked(kind, fluid, x, y) => asked_by(fluid, kind, number(x), number(y)),
-        Record::Unknown => Question::Refused(Refusal::UnknownMark),
-        Record::Cut => Question::Refused(Refusal::CutShort),
-    }
+    let record = marked?;
+    let (t, x) = (number(record.first), number(record.second));
+    asked_by(record.fluid, record.kind, t, x)
 }
 
 // The density of a fluid by the plain search up to its own top, alone; or 2, 3, 5, then 8, 9, 12.
-// 8, 9 and 12 never occur (docs/NO-ANSWER.md).
+// 8, 9 and 12 never occur (docs/NO-ANSWER.md). The probe asks the same by a number, which may be no fluid's.
 pub fn density_at(fluid: Fluid, t: f64, p: f64, side: Side) -> Answer
     ensures { result ≡ density_at fluid t p side }
 {
@@ -45,14 +43,13 @@ pub fn density_at(fluid: Fluid, t: f64, p: f64, side: Side) -> Answer
     found_answer(plain_of(fluid, t, p, numbers.top_cells, side))
 }
 
-// The answer to what a record asks.
-pub(crate) fn worked(question: Question) -> Answer
+// The answer to what a record asks. A match, as in the tests of the inputs: there are two questions, and each hands on other things.
+pub(crate) fn worked(question: Result<Question, Refusal>) -> Answer
     ensures { result ≡ work_of question }
 {
-    match question {
+    match question? {
         Question::State(fluid, t, rho) => answer_of(Property::Pressure, fluid, t, rho),
         Question::Search(fluid, t, p, side) => density_at(fluid, t, p, side),
-        Question::Refused(r) => Answer::Refused(r),
     }
 }
 

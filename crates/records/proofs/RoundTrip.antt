@@ -5,27 +5,29 @@ use mathlib.Core.List.{List, [], ◌∷◌, ◌++◌, append-nil}
 use Prim.Native.Nat.{ℕ, suc, ◌+◌, ◌^◌, ◌≤◌, ◌<◌}
 use native.Mathlib.Omega.{arith}
 use borrow.Author.Tests.{eq-eqb}
+use lib.Dec.{eqb}
 use lib.ListN.{length, take, drop, replicate, length-drop}
 use lib.Seq.{take-suc, take_all, take-add, drop_at, drop-drop, get_or-drop}
+use Rattle.std.specs.Prelude.{Option, Some, None, Result, Ok, Err}
+use Rattle.refusals.specs.declared.Refusal.{Refusal}
+use Rattle.refusals.specs.declared.Refusal.TheVariants.{UnknownMark}
+use Rattle.refusals.proofs.Apart.{ok≢err}
 use Rattle.words.specs.Word.{byte_at, word_of, bytes_of, Bytes}
 use Rattle.words.proofs.Digits.{word_of_bytes, bytes_of_word}
 use Rattle.words.proofs.Written.{bytes_length}
 use Rattle.fluids.specs.declared.Fluid.{Fluid}
-use Rattle.fluids.specs.declared.Named.{Named}
 use Rattle.fluids.specs.Entries.{fluid_lettered}
-use Rattle.fluids.proofs.Lettered.{this_or_after, lettered_letter as fluid_by_letter, letter_lettered as letter_of_fluid}
+use Rattle.fluids.proofs.Lettered.{this_or_after, after_known, lettered_letter as fluid_by_letter, letter_lettered as letter_of_fluid}
 use Rattle.records.specs.declared.Kind.{Kind}
 use Rattle.records.specs.declared.Kind.TheVariants.{Density, FromBelow, FromAbove, NoSide, NoReading}
-use Rattle.records.specs.declared.Lettered.{Lettered}
-use Rattle.records.specs.declared.Lettered.TheVariants.{Known, Unknown}
-use Rattle.records.specs.declared.Record.TheVariants.{Marked}
-use Rattle.records.specs.Record.{kind_letter, kind_lettered, mark_of, carries_numbers, carried, layout_of, numbers_of, by_kind, of_fluid, by_fluid, marked_of, record_of}
+use Rattle.records.specs.declared.Record.{Record}
+use Rattle.records.specs.Record.{kind_letter, kind_lettered, mark_of, carries_numbers, carried, layout_of, marked, numbers_of, by_kind, of_fluid, by_fluid, marked_of, record_of}
 use Rattle.records.proofs.Whole.{whole_length}
 use Rattle.records.proofs.Laid.{carried_some, carried_none, layout_length}
 
 -- ---- kinds and their letters
 
-pub kind_by_letter : (kind : Kind) → kind_lettered (kind_letter kind) ≡ Known kind
+pub kind_by_letter : (kind : Kind) → kind_lettered (kind_letter kind) ≡ Ok kind
 unfolding kind_lettered kind_letter
 kind_by_letter Density = refl
 kind_by_letter FromBelow = refl
@@ -33,15 +35,24 @@ kind_by_letter FromAbove = refl
 kind_by_letter NoSide = refl
 kind_by_letter NoReading = refl
 
-pub letter_of_kind : (b : ℕ) (kind : Kind) → kind_lettered b ≡ Known kind → b ≡ kind_letter kind
+pub letter_of_kind : (b : ℕ) (kind : Kind) → kind_lettered b ≡ Ok kind → b ≡ kind_letter kind
 unfolding kind_lettered
 letter_of_kind b kind =
-    this_or_after kind_letter Known b (λ e. cc)
-    (this_or_after kind_letter Known b (λ e. cc)
-    (this_or_after kind_letter Known b (λ e. cc)
-    (this_or_after kind_letter Known b (λ e. cc)
-    (this_or_after kind_letter Known b (λ e. cc)
+    this_or_after kind_letter Ok b (λ e. cc)
+    (this_or_after kind_letter Ok b (λ e. cc)
+    (this_or_after kind_letter Ok b (λ e. cc)
+    (this_or_after kind_letter Ok b (λ e. cc)
+    (this_or_after kind_letter Ok b (λ e. cc)
     (λ none. absurd (true≢false cc))))))
+
+-- no letter is refused but by 14
+pub unlettered : (b : ℕ) {r : Refusal} → kind_lettered b ≡ Err r → r ≡ UnknownMark
+unfolding kind_lettered
+unlettered b e =
+    let its : Kind → Bool = λ kind. eqb b (kind_letter kind) in
+    let last =
+    after_known _ (its NoReading) (after_known _ (its NoSide) (after_known _ (its FromAbove) (after_known _ (its FromBelow) (after_known _ (its Density) e)))) in
+    cc
 
 -- ---- what a kind carries
 
@@ -77,54 +88,54 @@ module _ (kind : Kind) (F : Fluid) (x y : ℕ) where
         ap (λ (s : List ℕ). word_of s) (second_half ∙ sym (append-nil (bytes_of (carried kind y))))
         ∙ word_of_bytes (carried kind y) [] (carried_fits kind y fits_y)
 
-    numbers_written : numbers_of kind F (layout_of kind F x y) ≡ Marked kind F (carried kind x) (carried kind y)
+    numbers_written : numbers_of kind F (layout_of kind F x y) ≡ marked kind F (carried kind x) (carried kind y)
     unfolding numbers_of
     numbers_written = simp (first_word, second_word, carried_again kind x, carried_again kind y)
 
-    by_mark : marked_of (layout_of kind F x y) ≡ numbers_of kind F (layout_of kind F x y)
+    by_mark : marked_of (layout_of kind F x y) ≡ Ok (numbers_of kind F (layout_of kind F x y))
     unfolding marked_of of_fluid layout_of mark_of
     by_mark = simp (fluid_by_letter F, kind_by_letter kind)
 
-    pub read_of_written : record_of (layout_of kind F x y) ≡ Marked kind F (carried kind x) (carried kind y)
+    pub read_of_written : record_of (layout_of kind F x y) ≡ Ok (marked kind F (carried kind x) (carried kind y))
     unfolding record_of
-    read_of_written = simp (eq-eqb (length (layout_of kind F x y)) 18 (layout_length kind F x y)) (by_mark ∙ numbers_written)
+    read_of_written = simp (eq-eqb (length (layout_of kind F x y)) 18 (layout_length kind F x y)) (by_mark ∙ ap Ok numbers_written)
 
 -- ---- writing what was read
 
 -- what a record says that is read with a known mark
 pub record Says (s : List ℕ) (kind : Kind) (F : Fluid) (x y : ℕ) : Type 0 where
-  pub fluid : fluid_lettered (byte_at s 0) ≡ Named.Known F
-  pub letter : kind_lettered (byte_at s 1) ≡ Known kind
+  pub fluid : fluid_lettered (byte_at s 0) ≡ Some F
+  pub letter : kind_lettered (byte_at s 1) ≡ Ok kind
   pub first : x ≡ carried kind (word_of (drop 2 s))
   pub second : y ≡ carried kind (word_of (drop 10 s))
 
 module _ (s : List ℕ) (kind : Kind) (F : Fluid) (x y : ℕ) where
-  says_numbers : {k : Kind} {G : Fluid} → fluid_lettered (byte_at s 0) ≡ Named.Known G → kind_lettered (byte_at s 1) ≡ Known k → numbers_of k G s ≡ Marked kind F x y → Says s kind F x y
+  says_numbers : {k : Kind} {G : Fluid} → fluid_lettered (byte_at s 0) ≡ Some G → kind_lettered (byte_at s 1) ≡ Ok k → numbers_of k G s ≡ marked kind F x y → Says s kind F x y
   unfolding numbers_of
   says_numbers {k} {G} f l e =
-      let same_kind : k ≡ kind = cc in
-      let same_fluid : G ≡ F = cc in
-      let first : x ≡ carried k (word_of (drop 2 s)) = cc in
-      let second : y ≡ carried k (word_of (drop 10 s)) = cc in
+      let same_kind : k ≡ kind = ap (λ (r : Record). r.kind) e in
+      let same_fluid : G ≡ F = ap (λ (r : Record). r.fluid) e in
+      let first : x ≡ carried k (word_of (drop 2 s)) = sym (ap (λ (r : Record). r.first) e) in
+      let second : y ≡ carried k (word_of (drop 10 s)) = sym (ap (λ (r : Record). r.second) e) in
       record {
-        fluid = f ∙ ap Named.Known same_fluid;
-        letter = l ∙ ap Known same_kind;
+        fluid = f ∙ ap Some same_fluid;
+        letter = l ∙ ap Ok same_kind;
         first = first ∙ ap (λ (k : Kind). carried k (word_of (drop 2 s))) same_kind;
         second = second ∙ ap (λ (k : Kind). carried k (word_of (drop 10 s))) same_kind;
       }
 
-  says_kind : (G : Fluid) → fluid_lettered (byte_at s 0) ≡ Named.Known G → (l : Lettered) → kind_lettered (byte_at s 1) ≡ l → by_kind l G s ≡ Marked kind F x y → Says s kind F x y
-  says_kind G f (Known k) l e = says_numbers f l e
-  says_kind G f Unknown l e = absurd (true≢false cc)
+  says_kind : (G : Fluid) → fluid_lettered (byte_at s 0) ≡ Some G → (l : Result Kind Refusal) → kind_lettered (byte_at s 1) ≡ l → by_kind l G s ≡ Ok (marked kind F x y) → Says s kind F x y
+  says_kind G f (Ok k) l e = says_numbers f l cc
+  says_kind G f (Err r) l e = absurd (ok≢err (sym e))
 
-  says_fluid : (n : Named) → fluid_lettered (byte_at s 0) ≡ n → by_fluid n s ≡ Marked kind F x y → Says s kind F x y
+  says_fluid : (n : Option Fluid) → fluid_lettered (byte_at s 0) ≡ n → by_fluid n s ≡ Ok (marked kind F x y) → Says s kind F x y
   unfolding of_fluid
-  says_fluid (Named.Known G) f e = says_kind G f (kind_lettered (byte_at s 1)) refl e
-  says_fluid Named.Unknown f e = absurd (true≢false cc)
+  says_fluid (Some G) f e = says_kind G f (kind_lettered (byte_at s 1)) refl e
+  says_fluid None f e = absurd (ok≢err (sym e))
 
-  module _ (read : record_of s ≡ Marked kind F x y) where
+  module _ (read : record_of s ≡ Ok (marked kind F x y)) where
     pub whole : length s ≡ 18
-    whole = whole_length s (sym read) tt
+    whole = whole_length s (sym read) ok≢err
 
     pub says : Says s kind F x y
     unfolding record_of marked_of

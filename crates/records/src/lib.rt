@@ -7,7 +7,6 @@ mod run;
 mod writer;
 
 use fluids::Fluid;
-pub use mark::kind_lettered;
 pub use reader::read;
 pub use run::{record_at, record_count};
 pub use writer::put_record;
@@ -16,7 +15,7 @@ pub use writer::put_record;
 pub const RECORD_LENGTH: usize = 18;
 
 // What the two numbers of a record are: the second letter of its mark.
-#[derive(Clone, Copy)]
+#[derive(Clone, Copy, Debug, PartialEq, Eq)]
 pub enum Kind {
     // D: temperature and density
     Density,
@@ -29,20 +28,12 @@ pub enum Kind {
     NoReading,
 }
 
-// What a letter names: a kind, or none.
-#[derive(Clone, Copy)]
-pub enum Lettered {
-    Known(Kind),
-    Unknown,
-}
-
-// A record as it was read: its numbers are bits.
-#[derive(Clone, Copy)]
-pub enum Record {
-    // a known mark, by its second letter and its first, and two numbers; of a no-reading record, which carries none, zeros
-    Marked(Kind, Fluid, u64, u64),
-    // another mark
-    Unknown,
-    // not 18 bytes
-    Cut,
+// A record as it was read: its mark, by the second letter and the first, and two numbers as bits; of a no-reading record, which carries none,
+// zeros.
+#[derive(Clone, Copy, Debug, PartialEq, Eq)]
+pub struct Record {
+    pub kind: Kind,
+    pub fluid: Fluid,
+    pub first: u64,
+    pub second: u64,
 }

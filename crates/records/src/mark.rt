@@ -2,33 +2,41 @@
 ghost use Rattle.std.specs.Prelude.{◌≡◌};
 ghost use Rattle.records.specs.Record.{kind_letter, kind_lettered, carries_numbers};
 
-use crate::{Kind, Lettered};
+use crate::Kind;
+use refusals::Refusal;
 
 // The letter of a kind.
-pub(crate) fn kind_letter(kind: Kind) -> u8
-    ensures { result ≡ kind_letter kind }
-{
-    match kind {
-        Kind::Density => b'D',
-        Kind::FromBelow => b'B',
-        Kind::FromAbove => b'A',
-        Kind::NoSide => b'P',
-        Kind::NoReading => b'N',
+impl From<Kind> for u8 {
+    ghost from_gives = { λ kind letter. letter ≡ kind_letter kind };
+
+    #[tactic(auto, unfolding(crate::specs::Record::kind_letter))]
+    fn from(kind: Kind) -> u8 {
+        match kind {
+            Kind::Density => b'D',
+            Kind::FromBelow => b'B',
+            Kind::FromAbove => b'A',
+            Kind::NoSide => b'P',
+            Kind::NoReading => b'N',
+        }
     }
 }
 
-// The kind by the code of its letter.
-pub fn kind_lettered(letter: u32) -> Lettered
-    ensures { result ≡ kind_lettered letter }
-{
-    match letter {
-        // D, B, A, P, N
-        68 => Lettered::Known(Kind::Density),
-        66 => Lettered::Known(Kind::FromBelow),
-        65 => Lettered::Known(Kind::FromAbove),
-        80 => Lettered::Known(Kind::NoSide),
-        78 => Lettered::Known(Kind::NoReading),
-        _ => Lettered::Unknown,
+// The kind by the code of its letter: another is 14.
+impl TryFrom<u32> for Kind {
+    type Error = Refusal;
+
+    ghost try_from_gives = { λ letter lettered. lettered ≡ kind_lettered letter };
+
+    fn try_from(letter: u32) -> Result<Kind, Refusal> {
+        match letter {
+            // D, B, A, P, N
+            68 => Ok(Kind::Density),
+            66 => Ok(Kind::FromBelow),
+            65 => Ok(Kind::FromAbove),
+            80 => Ok(Kind::NoSide),
+            78 => Ok(Kind::NoReading),
+            _ => Err(Refusal::UnknownMark),
+        }
     }
 }
 
@@ -36,11 +44,5 @@ pub fn kind_lettered(letter: u32) -> Lettered
 pub(crate) fn carries_numbers(kind: Kind) -> bool
     ensures { result ≡ carries_numbers kind }
 {
-    match kind {
-        Kind::Density => true,
-        Kind::FromBelow => true,
-        Kind::FromAbove => true,
-        Kind::NoSide => true,
-        Kind::NoReading => false,
-    }
+    kind != Kind::NoReading
 }

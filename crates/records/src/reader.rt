@@ -1,61 +1,55 @@
 // A record read as bits: a two-byte mark and two binary64 numbers, the lowest byte first.
-ghost use Rattle.std.specs.Prelude.{◌≡◌, length};
-ghost use Rattle.records.specs.Record.{numbers_of, kind_lettered, of_fluid, marked_of, record_of};
+ghost use Rattle.std.specs.Prelude.{◌≡◌};
+ghost use Rattle.records.specs.Record.{numbers_of, of_fluid, marked_of, record_of};
 
-use crate::mark::{carries_numbers, kind_lettered};
-use crate::{Kind, Lettered, RECORD_LENGTH, Record};
-use fluids::{Fluid, Named, fluid_lettered};
+use crate::mark::carries_numbers;
+use crate::{Kind, RECORD_LENGTH, Record};
+use fluids::{Fluid, fluid_lettered};
+use refusals::Refusal;
 use words::word;
 
 // The two numbers after the mark, eight bytes each: where their length is in sight, no byte is tested for being there. Of a no-reading
 // record none is looked at.
-fn numbers(kind: Kind, fluid: Fluid, s: &[u8]) -> Record
-    requires { length s.now ≡ 18 }
+fn numbers(kind: Kind, fluid: Fluid, s: &[u8; RECORD_LENGTH]) -> Record
     ensures { result ≡ numbers_of kind fluid s.now }
 {
-    if carries_numbers(kind) {
-        Record::Marked(kind, fluid, word(&s[2..10]), word(&s[10..18]))
+    let (first, second) = if carries_numbers(kind) {
+        (word(&s[2..10]), word(&s[10..18]))
     } else {
-        Record::Marked(kind, fluid, 0, 0)
+        (0, 0)
+    };
+    Record {
+        kind,
+        fluid,
+        first,
+        second,
     }
-}
-
-fn lettered_byte(letter: u8) -> Lettered
-    ensures { result ≡ kind_lettered letter }
-{
-    kind_lettered(letter as u32)
 }
 
 // The mark's second letter says what they are.
-fn of_fluid(fluid: Fluid, s: &[u8]) -> Record
-    requires { length s.now ≡ 18 }
+fn of_fluid(fluid: Fluid, s: &[u8; RECORD_LENGTH]) -> Result<Record, Refusal>
     ensures { result ≡ of_fluid fluid s.now }
 {
-    let lettered = lettered_byte(s[1]);
-    match lettered {
-        Lettered::Known(kind) => numbers(kind, fluid, s),
-        Lettered::Unknown => Record::Unknown,
-    }
+    let kind = Kind::try_from(u32::from(s[1]))?;
+    Ok(numbers(kind, fluid, s))
 }
 
 // The mark's first letter says of which fluid they are.
-fn marked(s: &[u8]) -> Record
-    requires { length s.now ≡ 18 }
+fn marked(s: &[u8; RECORD_LENGTH]) -> Result<Record, Refusal>
     ensures { result ≡ marked_of s.now }
 {
-    let named = fluid_lettered(s[0]);
-    match named {
-        Named::Known(fluid) => of_fluid(fluid, s),
-        Named::Unknown => Record::Unknown,
+    match fluid_lettered(s[0]) {
+        Some(fluid) => of_fluid(fluid, s),
+        None => Err(Refusal::UnknownMark),
     }
 }
 
-// The record that the bytes are: the length first, then the mark.
-pub fn read(s: &[u8]) -> Record
+// The record that the bytes are: the length first, 15, then the mark, 14.
+pub fn read(s: &[u8]) -> Result<Record, Refusal>
     ensures { result ≡ record_of s.now }
 {
-    if s.len() != RECORD_LENGTH {
-        return Record::Cut;
+    match <&[u8; RECORD_LENGTH]>::try_from(s) {
+        Ok(whole) => marked(whole),
+        Err(_) => Err(Refusal::CutShort),
     }
-    marked(s)
 }

@@ -8,26 +8,14 @@ use crate::RECORD_LENGTH;
 pub fn record_count(s: &[u8]) -> usize
     ensures { result ≡ record_count s.now }
 {
-    let length = s.len();
-    let whole = length / RECORD_LENGTH;
-    if length % RECORD_LENGTH == 0 {
-        return whole;
-    }
-    whole + 1
+    s.len().div_ceil(RECORD_LENGTH)
 }
 
-// The record number k, from 0; past the last one no bytes.
+// The record number k, from 0; past the last one no bytes, where `chunks(RECORD_LENGTH).nth(k)` would be None.
 pub fn record_at(s: &[u8], k: usize) -> &[u8]
     ensures { result.now ≡ record_at s.now k }
 {
-    let length = s.len();
-    if length / RECORD_LENGTH < k {
-        return &s[length..];
-    }
-    let from = RECORD_LENGTH * k;
-    if length - from < RECORD_LENGTH {
-        return &s[from..];
-    }
-    let to = from + RECORD_LENGTH;
-    &s[from..to]
+    let from = k.saturating_mul(RECORD_LENGTH).min(s.len());
+    let rest = &s[from..];
+    &rest[..RECORD_LENGTH.min(rest.len())]
 }

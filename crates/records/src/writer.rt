@@ -3,12 +3,13 @@ ghost use Rattle.std.specs.Prelude.{◌≡◌, ◌++◌, ◌≤◌, length, drop
 ghost use Rattle.words.specs.Word.{bytes_of};
 ghost use Rattle.records.specs.Record.{mark_of, carried, with_record};
 
-use crate::mark::{carries_numbers, kind_letter};
+use crate::mark::carries_numbers;
 use crate::{Kind, RECORD_LENGTH};
 use fluids::{Fluid, letter};
 use words::put_word;
 
 // The word that a record of the kind has for w: 0 where it carries no numbers.
+#[tactic(auto, unfolding(crate::specs::Record::carried))]
 fn word_carried(kind: Kind, w: u64) -> u64
     ensures { result ≡ carried kind w }
 {
@@ -16,15 +17,17 @@ fn word_carried(kind: Kind, w: u64) -> u64
 }
 
 // The two letters into the first two places.
+#[tactic(auto, unfolding(crate::specs::Record::mark_of))]
 fn put_mark(kind: Kind, fluid: Fluid, out: &mut [u8])
     requires { 2 ≤ length out.old }
     ensures { out.new ≡ mark_of kind fluid ++ drop 2 out.old }
 {
     out[0] = letter(fluid);
-    out[1] = kind_letter(kind);
+    out[1] = u8::from(kind);
 }
 
-// The two words' bytes into the first sixteen places.
+// The two words' bytes into the first sixteen places. Not into an array of sixteen, nor the mark into one of two: both go into the lent output, whose
+// rest stays as it was.
 fn put_words(first: u64, second: u64, out: &mut [u8])
     requires { 16 ≤ length out.old }
     ensures { out.new ≡ (bytes_of first ++ bytes_of second) ++ drop 16 out.old }
@@ -33,7 +36,8 @@ fn put_words(first: u64, second: u64, out: &mut [u8])
     put_word(&mut out[8..], second);
 }
 
-// The record's 18 bytes into the first 18 places; a shorter slice is left as it is.
+// The record's 18 bytes into the first 18 places; a shorter slice is left as it is. The parts are taken one by one, as C hands them over; a `Record`
+// would first have to be built of them.
 pub fn put_record(kind: Kind, fluid: Fluid, first: u64, second: u64, out: &mut [u8])
     ensures { out.new ≡ with_record kind fluid first second out.old }
 {

@@ -4,17 +4,12 @@ use mathlib.Core.Path.{◌≡◌, sym, ◌∙◌, subst}
 use mathlib.Core.Bool.{not, true≢false}
 use Prim.Native.Nat.{ℕ}
 use lib.Dec.{T, T_not, eqb, eqb_refl}
-use lib.Ieee.{Float}
+use Rattle.std.specs.Prelude.{Ok, Err}
 use Rattle.refusals.specs.declared.Refusal.{Refusal}
-use Rattle.refusals.specs.declared.Permit.TheVariants.{Granted, Denied}
-use Rattle.refusals.specs.declared.Answer.TheVariants.{Number, Refused}
 use Rattle.refusals.specs.Code.{code_of}
 
-pub granted≢denied : {r : Refusal} → Granted ≡ Denied r → ⊥
-granted≢denied e = true≢false (cc)
-
-pub number≢refused : {x : Float} {r : Refusal} → Number x ≡ Refused r → ⊥
-number≢refused e = true≢false (cc)
+pub ok≢err : {A : Type 0} {x : A} {r : Refusal} → Ok x ≡ Err r → ⊥
+ok≢err e = true≢false (cc)
 
 -- refusals that have two numbers: `other_code tt` of two that are written out
 pub other_code : {d e : Refusal} → T (not (eqb (code_of d) (code_of e))) → d ≡ e → ⊥

@@ -8,12 +8,12 @@ use Prim.Native.Nat.{ℕ}
 use borrow.Author.Tests.{eqb-true}
 use lib.Dec.{T, eqb}
 use lib.Ieee.Fits.{and_l, and_r}
+use Rattle.std.specs.Prelude.{Ok, Err}
 use Rattle.refusals.specs.declared.Refusal.{Refusal}
-use Rattle.refusals.specs.declared.Permit.{Permit}
-use Rattle.refusals.specs.declared.Permit.TheVariants.{Granted, Denied}
+use Rattle.refusals.specs.Answer.{Permit}
 use Rattle.refusals.specs.Code.{code_of, OneOf}
 use Rattle.refusals.specs.Order.{first_of, tested_of, granted}
-use Rattle.refusals.proofs.Apart.{granted≢denied, other_code}
+use Rattle.refusals.proofs.Apart.{ok≢err, other_code}
 use Rattle.refusals.proofs.Needed.{test_passed, rest_granted, also, first_of_both}
 
 -- ---- one after the other
@@ -22,21 +22,21 @@ abbrev pub in_turn : Permit → List (Bool × Refusal) → Permit
 in_turn before [] = before
 in_turn before (test ∷ tests) = in_turn (tested_of before test.0 test.1) tests
 
-denied_stays : (r : Refusal) (tests : List (Bool × Refusal)) → in_turn (Denied r) tests ≡ Denied r
+denied_stays : (r : Refusal) (tests : List (Bool × Refusal)) → in_turn (Err r) tests ≡ Err r
 denied_stays r [] = refl
 denied_stays r (test ∷ tests) = denied_stays r tests
 
-granted_first : (tests : List (Bool × Refusal)) → in_turn Granted tests ≡ first_of tests
+granted_first : (tests : List (Bool × Refusal)) → in_turn (Ok tt) tests ≡ first_of tests
 granted_first [] = refl
 granted_first (test ∷ tests) = go test.0 (granted_first tests)
   where
-    go : (b : Bool) → in_turn Granted tests ≡ first_of tests → in_turn (tested_of Granted b test.1) tests ≡ cond b (first_of tests) (Denied test.1)
+    go : (b : Bool) → in_turn (Ok tt) tests ≡ first_of tests → in_turn (tested_of (Ok tt) b test.1) tests ≡ cond b (first_of tests) (Err test.1)
     go true rest = rest
     go false rest = denied_stays test.1 tests
 
 in_turn_lem : (before : Permit) (tests : List (Bool × Refusal)) → in_turn before tests ≡ also before (first_of tests)
-in_turn_lem Granted tests = granted_first tests
-in_turn_lem (Denied r) tests = denied_stays r tests
+in_turn_lem (Ok _) tests = granted_first tests
+in_turn_lem (Err r) tests = denied_stays r tests
 
 -- tests worked after those that a permit has passed already
 pub tests_after : (passed tests : List (Bool × Refusal)) (before : Permit) → before ≡ first_of passed → in_turn before tests ≡ first_of (passed ++ tests)
@@ -48,12 +48,12 @@ abbrev pub AllPassed : List (Bool × Refusal) → Type 0
 AllPassed [] = Unit
 AllPassed (test ∷ tests) = (test.0 ≡ true) × AllPassed tests
 
-pub all_passed : (tests : List (Bool × Refusal)) → first_of tests ≡ Granted → AllPassed tests
+pub all_passed : (tests : List (Bool × Refusal)) → first_of tests ≡ Ok tt → AllPassed tests
 all_passed [] e = tt
 all_passed (test ∷ tests) e =
     (test_passed test.0 (first_of tests) test.1 e, all_passed tests (rest_granted test.0 (first_of tests) test.1 e))
 
-pub all_granted : (tests : List (Bool × Refusal)) → AllPassed tests → first_of tests ≡ Granted
+pub all_granted : (tests : List (Bool × Refusal)) → AllPassed tests → first_of tests ≡ Ok tt
 all_granted [] passed = refl
 all_granted (test ∷ tests) (first, rest) = rw first (all_granted tests rest)
 
@@ -64,13 +64,13 @@ abbrev pub none_is : Refusal → List (Bool × Refusal) → Bool
 none_is e [] = true
 none_is e (test ∷ tests) = not (eqb (code_of test.1) (code_of e)) && none_is e tests
 
-pub never_denied : (e : Refusal) (tests : List (Bool × Refusal)) → T (none_is e tests) → first_of tests ≡ Denied e → ⊥
-never_denied e [] ok d = granted≢denied d
+pub never_denied : (e : Refusal) (tests : List (Bool × Refusal)) → T (none_is e tests) → first_of tests ≡ Err e → ⊥
+never_denied e [] ok d = ok≢err d
 never_denied e (test ∷ tests) ok d =
     let other = not (eqb (code_of test.1) (code_of e)) in
     go test.0 (and_l other (none_is e tests) ok) (never_denied e tests (and_r other (none_is e tests) ok)) d
   where
-    go : (b : Bool) → T (not (eqb (code_of test.1) (code_of e))) → (first_of tests ≡ Denied e → ⊥) → cond b (first_of tests) (Denied test.1) ≡ Denied e → ⊥
+    go : (b : Bool) → T (not (eqb (code_of test.1) (code_of e))) → (first_of tests ≡ Err e → ⊥) → cond b (first_of tests) (Err test.1) ≡ Err e → ⊥
     go true other later d = later d
     go false other later d = let same : test.1 ≡ e = cc in other_code other same
 
@@ -103,20 +103,20 @@ abbrev pub codes_in : List ℕ → List (Bool × Refusal) → Bool
 codes_in codes [] = true
 codes_in codes (test ∷ tests) = is_one_of (code_of test.1) codes && codes_in codes tests
 
-pub denied_code : (codes : List ℕ) (tests : List (Bool × Refusal)) → T (codes_in codes tests) → (r : Refusal) → first_of tests ≡ Denied r → OneOf (code_of r) codes
-denied_code codes [] all r d = absurd (granted≢denied d)
+pub denied_code : (codes : List ℕ) (tests : List (Bool × Refusal)) → T (codes_in codes tests) → (r : Refusal) → first_of tests ≡ Err r → OneOf (code_of r) codes
+denied_code codes [] all r d = absurd (ok≢err d)
 denied_code codes (test ∷ tests) all r d =
     let here = is_one_of (code_of test.1) codes in
     go test.0 (one_of (code_of test.1) codes (and_l here (codes_in codes tests) all)) (denied_code codes tests (and_r here (codes_in codes tests) all) r) d
   where
-    go : (b : Bool) → OneOf (code_of test.1) codes → (first_of tests ≡ Denied r → OneOf (code_of r) codes) → cond b (first_of tests) (Denied test.1) ≡ Denied r → OneOf (code_of r) codes
+    go : (b : Bool) → OneOf (code_of test.1) codes → (first_of tests ≡ Err r → OneOf (code_of r) codes) → cond b (first_of tests) (Err test.1) ≡ Err r → OneOf (code_of r) codes
     go true own later d = later d
     go false own later d = let same : test.1 ≡ r = cc in subst (λ (x : Refusal). OneOf (code_of x) codes) same own
 
 -- a permit is granted, or denies with a refusal
-pub by_permit : {X : Type 0} (p : Permit) → (p ≡ Granted → X) → ((r : Refusal) → p ≡ Denied r → X) → X
-by_permit Granted f g = f refl
-by_permit (Denied r) f g = g r refl
+pub by_permit : {X : Type 0} (p : Permit) → (p ≡ Ok tt → X) → ((r : Refusal) → p ≡ Err r → X) → X
+by_permit (Ok _) f g = f refl
+by_permit (Err r) f g = g r refl
 
 -- ---- a permit that the code works test by test
 
@@ -131,8 +131,8 @@ one_test passed t e {r} {before} {b} worked first test =
 
 -- two parts of a list of tests grant exactly if each does
 pub granted_both : (p q : Permit) → granted (also p q) ≡ (granted p && granted q)
-granted_both Granted q = refl
-granted_both (Denied r) q = refl
+granted_both (Ok _) q = refl
+granted_both (Err r) q = refl
 
 -- one test, and two
 pub granted_one : (b : Bool) (r : Refusal) → granted (first_of ((b, r) ∷ [])) ≡ b
@@ -143,6 +143,6 @@ pub granted_two : (a b : Bool) (r s : Refusal) → granted (first_of ((a, r) ∷
 granted_two true b r s = granted_one b s
 granted_two false b r s = refl
 
-pub is_granted : (p : Permit) → granted p ≡ true → p ≡ Granted
-is_granted Granted e = refl
-is_granted (Denied r) e = cc
+pub is_granted : (p : Permit) → granted p ≡ true → p ≡ Ok tt
+is_granted (Ok _) e = refl
+is_granted (Err r) e = cc

@@ -2,17 +2,18 @@
 use mathlib.Core.Path.{◌≡◌, refl}
 use Prim.Native.Nat.{◌^◌}
 use lib.Dec.{T}
-use lib.Ieee.{binary64, of_bits, of_int, round}
+use lib.Ieee.{Float, binary64, of_bits, of_int, round}
 use lib.Ieee.Scale.{finite}
-use Rattle.arithmetic.specs.Checked.{real, squash}
+use Rattle.arithmetic.specs.Checked.{real, squash, between}
 
 pub lit_256 : of_bits binary64 0x4070000000000000 ≡ real 256
 unfolding of_bits of_int round
 lit_256 = refl
 
-pub lit_1e8 : of_bits binary64 0x4197d78400000000 ≡ real (10 ^ 8)
+-- the test whether x lies in root's range
+pub lit_range : (x : Float) → between (of_bits binary64 0x3ff0000000000000) x (of_bits binary64 0x4197d78400000000) ≡ between (real 1) x (real (10 ^ 8))
 unfolding of_bits of_int round
-lit_1e8 = refl
+lit_range x = refl
 
 pub squash_256 : squash (real 256) ≡ real 256
 unfolding of_int round

@@ -6,8 +6,8 @@ use native.Mathlib.Omega.{arith}
 use borrow.Rule.Slice.PartMut.{put_mid}
 use lib.Ieee.{binary64, to_bits}
 use lib.ListN.{length, take, drop, set, length-take, length-drop}
-use Rattle.refusals.specs.declared.Answer.{Answer}
-use Rattle.refusals.specs.declared.Answer.TheVariants.{Number, Refused}
+use Rattle.std.specs.Prelude.{Ok, Err}
+use Rattle.refusals.specs.Answer.{Answer}
 use Rattle.words.proofs.Written.{word_length}
 use Rattle.words.proofs.Blocks.{Blocks, Put, none_yet as none_put, tail, one_more as one_more_block, one_place}
 use Rattle.records.specs.Run.{record_count, record_at, gathered}
@@ -17,8 +17,8 @@ use Rattle.runs.specs.Answers.{own_bytes, outputs_up_to, codes_up_to, each_outpu
 -- ---- a call leaves its output as long as it was
 
 output_length : (a : Answer) (out : List ℕ) → length (output_of a out) ≡ length out
-output_length (Number x) out = word_length (to_bits binary64 x) out
-output_length (Refused r) out = refl
+output_length (Ok x) out = word_length (to_bits binary64 x) out
+output_length (Err r) out = refl
 
 call_length : (t out : List ℕ) → length (call_output t out) ≡ length out
 unfolding call_output

@@ -8,11 +8,11 @@ use borrow.Author.Tests.{le-leb, lt-leb, leb-true, leb-false, ne_eqb}
 use lib.Dec.{leb}
 use lib.ListN.{length, drop, get_or, length-take, length-drop}
 use lib.Seq.{drop_at, get_or-take, get_or-drop}
+use Rattle.std.specs.Prelude.{Ok, Err}
 use Rattle.refusals.specs.declared.Refusal.{Refusal}
 use Rattle.refusals.specs.declared.Refusal.TheVariants.{TooShort, TooManyRecords}
-use Rattle.refusals.specs.declared.Permit.{Permit}
-use Rattle.refusals.specs.declared.Permit.TheVariants.{Granted, Denied}
-use Rattle.refusals.specs.Code.{permit_code_of}
+use Rattle.refusals.specs.Answer.{Permit}
+use Rattle.refusals.specs.Code.{answer_code_of}
 use Rattle.refusals.proofs.Tests.{by}
 use Rattle.refusals.proofs.Apart.{another_code}
 use Rattle.refusals.proofs.InOrder.{by_permit}
@@ -29,19 +29,19 @@ use Rattle.runs.proofs.Progress.{output_at, code_at, outputs, codes_of}
 -- ---- the order of refusals
 
 module _ (n room places : ℕ) where
-  output_short : room < 8 * n → permit_of n room places ≡ Denied TooShort
+  output_short : room < 8 * n → permit_of n room places ≡ Err TooShort
   unfolding permit_of
   output_short h = simp (lt-leb (8 * n) room h)
 
-  codes_short : places < n → permit_of n room places ≡ Denied TooShort
+  codes_short : places < n → permit_of n room places ≡ Err TooShort
   unfolding permit_of
   codes_short h = by (leb (8 * n) room) (λ e. simp (e, lt-leb n places h)) (λ e. simp e)
 
-  too_many : 8 * n ≤ room → n ≤ places → 4096 < n → permit_of n room places ≡ Denied TooManyRecords
+  too_many : 8 * n ≤ room → n ≤ places → 4096 < n → permit_of n room places ≡ Err TooManyRecords
   unfolding permit_of
   too_many a b h = simp (le-leb (8 * n) room a, le-leb n places b, lt-leb n 4096 h)
 
-  permitted : 8 * n ≤ room → n ≤ places → n ≤ 4096 → permit_of n room places ≡ Granted
+  permitted : 8 * n ≤ room → n ≤ places → n ≤ 4096 → permit_of n room places ≡ Ok tt
   unfolding permit_of
   permitted a b h = simp (le-leb (8 * n) room a, le-leb n places b, le-leb n 4096 h)
 
@@ -58,19 +58,19 @@ module _ (n room places : ℕ) where
       (λ e. output (leb-false (8 * n) room e))
 
 module _ (s out codes : List ℕ) where
-  coded : {p : Permit} → run_permit s out codes ≡ p → run_code s out codes ≡ permit_code_of p
+  coded : {p : Permit} → run_permit s out codes ≡ p → run_code s out codes ≡ answer_code_of p
   unfolding run_code
-  coded e = ap permit_code_of e
+  coded e = ap answer_code_of e
 
-  granted_is : 8 * record_count s ≤ length out → record_count s ≤ length codes → record_count s ≤ 4096 → run_permit s out codes ≡ Granted
+  granted_is : 8 * record_count s ≤ length out → record_count s ≤ length codes → record_count s ≤ 4096 → run_permit s out codes ≡ Ok tt
   unfolding run_permit
   granted_is a b h = permitted (record_count s) (length out) (length codes) a b h
 
-  many_is : 8 * record_count s ≤ length out → record_count s ≤ length codes → 4096 < record_count s → run_permit s out codes ≡ Denied TooManyRecords
+  many_is : 8 * record_count s ≤ length out → record_count s ≤ length codes → 4096 < record_count s → run_permit s out codes ≡ Err TooManyRecords
   unfolding run_permit
   many_is a b h = too_many (record_count s) (length out) (length codes) a b h
 
-  short_is : (length out < 8 * record_count s) ⊎ (length codes < record_count s) → run_permit s out codes ≡ Denied TooShort
+  short_is : (length out < 8 * record_count s) ⊎ (length codes < record_count s) → run_permit s out codes ≡ Err TooShort
   unfolding run_permit
   short_is (inl h) = output_short (record_count s) (length out) (length codes) h
   short_is (inr h) = codes_short (record_count s) (length out) (length codes) h
@@ -146,11 +146,11 @@ module _ (s out codes : List ℕ) where
       all_length 1 (length codes) (code_at s out) (codes_up_to s out) (codes_of s out codes) (record_count s) (omega arith) in
       drop_at (codes_up_to s out (record_count s)) (drop (record_count s) codes) (record_count s) (omega arith)
 
-  left_output : (r : Refusal) → run_permit s out codes ≡ Denied r → run_output s out codes ≡ out
+  left_output : (r : Refusal) → run_permit s out codes ≡ Err r → run_output s out codes ≡ out
   unfolding run_output
   left_output r d = simp d
 
-  left_codes : (r : Refusal) → run_permit s out codes ≡ Denied r → run_codes s out codes ≡ codes
+  left_codes : (r : Refusal) → run_permit s out codes ≡ Err r → run_codes s out codes ≡ codes
   unfolding run_codes
   left_codes r d = simp d
 
@@ -162,7 +162,7 @@ module _ (s out codes : List ℕ) where
     fits : (8 * record_count s ≤ length out) × (record_count s ≤ length codes) × (record_count s ≤ 4096)
     fits = (exactly_answered s out codes).0 answered
 
-    granted : run_permit s out codes ≡ Granted
+    granted : run_permit s out codes ≡ Ok tt
     granted = granted_is s out codes fits.0 fits.1 fits.2
 
     output_is : run_output s out codes ≡ each_output s out

@@ -3,8 +3,8 @@
 use Rattle.std.specs.Prelude.{Bool, List, [], ◌∷◌, ◌++◌, ℕ, ◌*◌, ◌≤◌, leb, length, take, drop}
 use Rattle.refusals.specs.declared.Refusal.{Refusal}
 use Rattle.refusals.specs.declared.Refusal.TheVariants.{TooShort, TooManyRecords}
-use Rattle.refusals.specs.declared.Permit.{Permit}
-use Rattle.refusals.specs.Code.{permit_code_of}
+use Rattle.refusals.specs.Answer.{Permit}
+use Rattle.refusals.specs.Code.{answer_code_of}
 use Rattle.refusals.specs.Order.{first_of, left_by}
 use Rattle.records.specs.Run.{record_count, gathered}
 use Rattle.questions.specs.Call.{call_code, call_output}
@@ -51,7 +51,7 @@ RunFits s out codes = (8 * record_count s ≤ length out) × (record_count s ≤
 -- ---- the call
 
 unfoldable pub run_code : List ℕ → List ℕ → List ℕ → ℕ
-run_code s out codes = permit_code_of (run_permit s out codes)
+run_code s out codes = answer_code_of (run_permit s out codes)
 
 unfoldable pub run_output : List ℕ → List ℕ → List ℕ → List ℕ
 run_output s out codes = left_by (run_permit s out codes) out (each_output s out)

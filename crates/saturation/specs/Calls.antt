@@ -1,6 +1,6 @@
 -- The three estimates as calls: 2, 3, 13, then the number, or 12.
 use Rattle.std.specs.Prelude.{Float}
-use Rattle.refusals.specs.declared.Answer.{Answer}
+use Rattle.refusals.specs.Answer.{Answer}
 use Rattle.refusals.specs.Order.{permitted}
 use Rattle.arithmetic.specs.Answered.{answer_from}
 use Rattle.fluids.specs.declared.Fluid.{Fluid}

@@ -1,3 +1,2 @@
 pub mod Estimates
-pub mod Table
 pub mod Calls

@@ -3,8 +3,8 @@ use mathlib.Core.Path.{◌≡◌, refl}
 use Prim.Native.Nat.{ℕ, zero, suc, ◌+◌, ◌/◌, ◌≤◌, ◌<◌}
 use native.Mathlib.Omega.{arith}
 use lib.Ieee.{Float}
-use Rattle.search.specs.declared.Located.{Located}
-use Rattle.search.specs.declared.Located.TheVariants.{At, Refused}
+use Rattle.std.specs.Prelude.{Result, Ok, Err}
+use Rattle.refusals.specs.declared.Refusal.{Refusal}
 use Rattle.search.specs.declared.Side.{Side}
 use Rattle.search.specs.declared.Side.TheVariants.{FromBelow, FromAbove}
 use Rattle.search.specs.Plain.{end_step, visit_up, cell_from_below, visit_down, cell_from_above}
@@ -49,7 +49,7 @@ module _ (p r : ℕ → Float) (top : ℕ) (same : (k : ℕ) → k ≤ end_step 
       let m = (lower + upper) / 2 in
       rw (same m (omega arith), halved_alike n m upper (omega arith) k, halved_alike n lower m (omega arith) (omega arith))
 
-  pub in_cell_alike : (x : Located) → ((j : ℕ) → x ≡ At j → j < top) → in_cell p P x ≡ in_cell r P x
+  pub in_cell_alike : (x : Result ℕ Refusal) → ((j : ℕ) → x ≡ Ok j → j < top) → in_cell p P x ≡ in_cell r P x
   unfolding in_cell
-  in_cell_alike (At j) under = let h = under j refl in halved_alike _ (end_step j) (end_step (j + 1)) (omega arith) (omega arith)
-  in_cell_alike (Refused d) under = refl
+  in_cell_alike (Ok j) under = let h = under j refl in halved_alike _ (end_step j) (end_step (j + 1)) (omega arith) (omega arith)
+  in_cell_alike (Err d) under = refl

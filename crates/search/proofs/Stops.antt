@@ -6,9 +6,9 @@ use native.Mathlib.Omega.{arith}
 use borrow.Author.Tests.{eqb-true}
 use lib.Dec.{eqb}
 use lib.Ieee.{Float, lt, le, is_nan}
+use Rattle.std.specs.Prelude.{Ok}
 use Rattle.refusals.specs.declared.Refusal.TheVariants.{NoCell, NotNeighbours, WorkNotFinite}
 use Rattle.refusals.proofs.Tests.{by}
-use Rattle.search.specs.declared.Located.TheVariants.{At}
 use Rattle.search.specs.Plain.{visit_up, visit_down}
 use Rattle.search.specs.InCell.{halved}
 use Rattle.search.proofs.NeverNine.{found_not_refused, same_at}
@@ -22,7 +22,7 @@ under Low High q a b k h (inside, low, high) = (omega arith, low, high)
 
 module _ (q : ℕ → Float) (P : Float) where
   -- upwards: a number that is not above P is passed
-  pub up_stops : (Low : Float → Type 0) → ((x : Float) → is_nan x ≡ false → lt P x ≡ false → Low x) → (n j k : ℕ) → Low (q j) → visit_up q P n j ≡ At k → Stops Low (λ x. lt P x ≡ true) q (j + n) k
+  pub up_stops : (Low : Float → Type 0) → ((x : Float) → is_nan x ≡ false → lt P x ≡ false → Low x) → (n j k : ℕ) → Low (q j) → visit_up q P n j ≡ Ok k → Stops Low (λ x. lt P x ≡ true) q (j + n) k
   unfolding visit_up
   up_stops Low passed zero j k low r = absurd (found_not_refused k NoCell (sym r))
   up_stops Low passed (suc n) j k low r =
@@ -33,7 +33,7 @@ module _ (q : ℕ → Float) (P : Float) where
       (λ s. under Low (λ x. lt P x ≡ true) q (j + 1 + n) (j + suc n) k (omega arith) (up_stops Low passed n (j + 1) k (passed (q (j + 1)) t s) (simp (t, s) at r))))
 
   -- downwards: a number that is not ≤ P is passed
-  pub down_stops : (High : Float → Type 0) → ((x : Float) → is_nan x ≡ false → le x P ≡ false → High x) → (j k : ℕ) → High (q j) → visit_down q P j ≡ At k → Stops (λ x. le x P ≡ true) High q j k
+  pub down_stops : (High : Float → Type 0) → ((x : Float) → is_nan x ≡ false → le x P ≡ false → High x) → (j k : ℕ) → High (q j) → visit_down q P j ≡ Ok k → Stops (λ x. le x P ≡ true) High q j k
   unfolding visit_down
   down_stops High passed zero k high r = absurd (found_not_refused k NoCell (sym r))
   down_stops High passed (suc j) k high r =
@@ -46,7 +46,7 @@ module _ (q : ℕ → Float) (P : Float) where
   -- halving: a middle is the lower end where it is ≤ P, else the upper
   pub halving_stops :
       (Low High : Float → Type 0) → ((x : Float) → le x P ≡ true → Low x) → ((x : Float) → is_nan x ≡ false → le x P ≡ false → High x) →
-      (n lower upper k : ℕ) → lower ≤ upper → Low (q lower) → High (q upper) → halved q P n lower upper ≡ At k → Stops Low High q upper k
+      (n lower upper k : ℕ) → lower ≤ upper → Low (q lower) → High (q upper) → halved q P n lower upper ≡ Ok k → Stops Low High q upper k
   unfolding halved
   halving_stops Low High below above zero lower upper k h low high r =
       by (eqb (upper - lower) 1)

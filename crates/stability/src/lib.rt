@@ -6,11 +6,12 @@ ghost use Rattle.stability.specs.Stability.{Q, stability_of, isobaric_from, soun
 
 use arithmetic::{over, squash};
 use equation::State;
-use fluids::Fluid;
+use fluids::{Constants, Fluid};
 use ideal::i2;
 use roots::root;
+use sums::Sums;
 
-// V, K, Q of a state, with its fluid and its T.
+// V, K, Q of a state, with its fluid and its T, which are all that is read of it beside them.
 #[derive(Clone, Copy)]
 pub struct Stability {
     pub fluid: Fluid,
@@ -24,9 +25,7 @@ pub struct Stability {
 pub fn q_of(state: State) -> f64
     ensures { result ≡ Q state }
 {
-    let sums = state.sums;
-    let s1 = sums.s1;
-    let s2 = sums.s2;
+    let Sums { s1, s2, .. } = state.sums;
     squash(1.0 + 2.0 * s1 + s2)
 }
 
@@ -34,12 +33,8 @@ pub fn q_of(state: State) -> f64
 pub fn stability_of(state: State) -> Stability
     ensures { result ≡ stability_of state }
 {
-    let fluid = state.fluid;
-    let t = state.t;
-    let sums = state.sums;
-    let t2 = sums.t2;
-    let s1 = sums.s1;
-    let st = sums.st;
+    let State { fluid, t, sums, .. } = state;
+    let Sums { s1, t2, st, .. } = sums;
     let v = squash(i2(fluid, t) - t2);
     let k = squash(1.0 + s1 - st);
     let q = q_of(state);
@@ -50,12 +45,8 @@ pub fn stability_of(state: State) -> Stability
 pub fn isobaric_value(stability: Stability) -> f64
     ensures { result ≡ isobaric_from stability }
 {
-    let fluid = stability.fluid;
-    let v = stability.v;
-    let k = stability.k;
-    let q = stability.q;
-    let numbers = fluids::single_numbers(fluid);
-    let gas = numbers.gas;
+    let Stability { fluid, v, k, q, .. } = stability;
+    let gas = fluids::single_numbers(fluid).gas;
     squash(gas * (v + over(k * k, q)))
 }
 
@@ -63,13 +54,11 @@ pub fn isobaric_value(stability: Stability) -> f64
 pub fn sound_speed_value(stability: Stability) -> f64
     ensures { result ≡ sound_speed_from stability }
 {
-    let fluid = stability.fluid;
-    let t = stability.t;
-    let v = stability.v;
-    let k = stability.k;
-    let q = stability.q;
-    let numbers = fluids::single_numbers(fluid);
-    let gas = numbers.gas;
-    let molar_mass = numbers.molar_mass;
+    let Stability { fluid, t, v, k, q } = stability;
+    let Constants {
+        gas,
+        molar_mass,
+        ..
+    } = fluids::single_numbers(fluid);
     root((gas * t) / molar_mass * (q + over(k * k, v)))
 }

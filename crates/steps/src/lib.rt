@@ -1,6 +1,7 @@
 // 01, "Density steps are k·2⁻³⁰, exact": the density of a step, and the pressures at steps and at coarse ends.
 //
-// For formulas: no fluid has more than MOST_CELLS cells, and beyond them each of these is one NaN.
+// For formulas: no fluid has more than MOST_CELLS cells, and beyond them each of these is one NaN. That is what each promises (`in_steps`), so none
+// gives an Option; the three tests are of two limits, and one function for them would take the work as a closure.
 #![tactic(auto)]
 
 ghost use Rattle.std.specs.Prelude.{◌≡◌};
@@ -12,17 +13,18 @@ use fluids::MOST_CELLS;
 use kept::Kept;
 
 // A cell is 2²³ steps.
-const MOST_STEPS: usize = MOST_CELLS * 8388608;
+pub const CELL_STEPS: usize = 8388608;
+
+const MOST_STEPS: usize = MOST_CELLS * CELL_STEPS;
 
 // k·2⁻³⁰, in mol/dm³.
 pub fn step_density(k: usize) -> f64
     ensures { result ≡ in_steps k (step_density_of k) }
 {
     if k <= MOST_STEPS {
-        let whole = k as f64;
-        return whole * 9.313225746154785e-10;
+        return k as f64 * 9.313225746154785e-10;
     }
-    0.0 / 0.0
+    f64::NAN
 }
 
 // The pressure at the step k of a kept temperature, in Pa; a NaN where 01 owes 12 too.
@@ -30,19 +32,17 @@ pub fn step_pressure(kept: Kept, k: usize) -> f64
     ensures { result ≡ pressure_in_steps kept k }
 {
     if k <= MOST_STEPS {
-        let rho = step_density(k);
-        return pressure_at(kept, rho);
+        return pressure_at(kept, step_density(k));
     }
-    0.0 / 0.0
+    f64::NAN
 }
 
-// The pressure at the coarse end j: a cell is 2²³ steps.
+// The pressure at the coarse end j.
 pub fn end_pressure(kept: Kept, j: usize) -> f64
     ensures { result ≡ at_ends (pressure_in_steps kept) j }
 {
     if j <= MOST_CELLS {
-        let k = j * 8388608;
-        return step_pressure(kept, k);
+        return step_pressure(kept, j * CELL_STEPS);
     }
-    0.0 / 0.0
+    f64::NAN
 }

@@ -1,4 +1,3 @@
-mod Table
 mod Turn
 pub mod Squashed
 pub mod Vanishing

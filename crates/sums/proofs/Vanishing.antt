@@ -15,7 +15,8 @@ use Rattle.fluids.specs.declared.Term.{Term}
 use Rattle.fluids.specs.declared.Term.TheVariants.{Plain, Damped, Bell}
 use Rattle.fluids.specs.Entry.{no_term}
 use Rattle.fluids.specs.Entries.{entry_of}
-use Rattle.fluids.proofs.Sound.{every, every_at, deep, sound}
+use Rattle.std.specs.List.{list_all}
+use Rattle.fluids.proofs.Sound.{every_at, deep, sound}
 use Rattle.kept.specs.declared.Kept.{Kept}
 use Rattle.sums.specs.declared.Sums.{Sums}
 use Rattle.sums.specs.Rows.{row_at}
@@ -37,7 +38,7 @@ module _ (δ τ w X : Float) (v : Vanishes δ) where
   row_vanishes (Damped N t d l) h = simp forced (product N d h)
   row_vanishes (Bell N t d η β γ ε) h = simp forced (product N d h)
 
-module _ (δ τ : Float) (rows : List Term) (powers bells : List Float) (v : Vanishes δ) (all : T (every deep rows)) where
+module _ (δ τ : Float) (rows : List Term) (powers bells : List Float) (v : Vanishes δ) (all : T (list_all deep rows)) where
   this_vanishes : (i : ℕ) → i < length rows → Vanishes (row_of δ τ rows powers bells i).a
   unfolding row_of
   this_vanishes i h = row_vanishes δ τ _ _ v (get_or rows i no_term) (every_at deep rows no_term all i h)

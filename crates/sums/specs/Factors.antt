@@ -6,12 +6,11 @@ use Rattle.fluids.specs.declared.Term.{Term}
 use Rattle.fluids.specs.Entry.{term_of}
 use Rattle.exponentials.specs.Exp.{exp_of}
 use Rattle.elementary.specs.Power.{◌↑◌}
-use Rattle.sums.specs.declared.rows.Damping.{Damping}
 use Rattle.sums.specs.Rows.{x_at}
 
 -- what the damped rows share: exp(−δ) and exp(−δ²)
-abbrev pub Dampings : Float → Damping → Type 0
-Dampings δ damping = (damping.first ≡ exp_of (minus (δ ↑ 1))) × (damping.second ≡ exp_of (minus (δ ↑ 2)))
+abbrev pub Dampings : Float → Float → Float → Type 0
+Dampings δ first second = (first ≡ exp_of (minus (δ ↑ 1))) × (second ≡ exp_of (minus (δ ↑ 2)))
 
 unfoldable pub x_of_row : Float → List Term → List Float → ℕ → Float
 x_of_row δ rows bells i = x_at δ (squash (lane bells i)) (term_of rows i)

@@ -7,37 +7,33 @@ ghost use Rattle.arithmetic.specs.Checked.{squash};
 ghost use Rattle.exponentials.specs.Exp.{exp_of};
 ghost use Rattle.arithmetic.specs.Lanes.{AtEach, lane};
 ghost use Rattle.fluids.specs.Entries.{entry_of};
-ghost use Rattle.sums.specs.Factors.{Dampings, x_of_row};
+ghost use Rattle.sums.specs.Factors.{x_of_row};
 
 use crate::rows::{Damping, x_exponent, x_of};
-use exponentials::{joined, seven_exps};
+use exponentials::{exps, joined};
 use fluids::Fluid;
 
-// What X of each row of the second half is the exponential of.
+// What X of each row of the second half is the exponential of. The row's place in both tables is counted from 7: zipped, each would first have to
+// be cut in two.
 fn x_exponents(fluid: Fluid, delta: f64, bells: [f64; 14]) -> [f64; 7]
     ensures { AtEach 7 (λ j. exp_of (lane result j) ≡ x_of_row (squash delta) (entry_of fluid).rows bells (7 + j)) }
 {
     let terms = fluids::terms(fluid);
     let mut exponents = [0.0; 7];
-    let mut j: usize = 0;
-    while j < 7 {
+    for j in 0..7 {
         exponents[j] = x_exponent(terms[7 + j], delta, bells[7 + j]);
-        j += 1;
     }
     exponents
 }
 
-// X of each row of the first half.
-fn first_xs(fluid: Fluid, delta: f64, bells: [f64; 14], damping: Damping) -> [f64; 7]
-    requires { Dampings (squash delta) damping }
-    ensures { AtEach 7 (λ j. lane result j ≡ x_of_row (squash delta) (entry_of fluid).rows bells j) }
+// X of each row of the first half. The tables are read by index, as 01 names the form for the rows.
+fn first_xs(fluid: Fluid, bells: [f64; 14], damping: Damping) -> [f64; 7]
+    ensures { AtEach 7 (λ j. lane result j ≡ x_of_row (squash damping.delta) (entry_of fluid).rows bells j) }
 {
     let terms = fluids::terms(fluid);
     let mut xs = [0.0; 7];
-    let mut j: usize = 0;
-    while j < 7 {
-        xs[j] = x_of(terms[j], delta, damping, bells[j]);
-        j += 1;
+    for j in 0..7 {
+        xs[j] = x_of(terms[j], damping, bells[j]);
     }
     xs
 }
@@ -46,12 +42,11 @@ fn first_xs(fluid: Fluid, delta: f64, bells: [f64; 14], damping: Damping) -> [f6
 pub(crate) fn xs_at(fluid: Fluid, delta: f64, bells: [f64; 14]) -> [f64; 14]
     ensures { AtEach 14 (λ i. lane result i ≡ x_of_row (squash delta) (entry_of fluid).rows bells i) }
 {
-    let second = seven_exps(x_exponents(fluid, delta, bells));
-    let by_delta = second[0];
-    let by_square = second[1];
+    let second = exps(x_exponents(fluid, delta, bells));
     let damping = Damping {
-        first: by_delta,
-        second: by_square,
+        delta,
+        first: second[0],
+        second: second[1],
     };
-    joined(first_xs(fluid, delta, bells, damping), second)
+    joined(first_xs(fluid, bells, damping), second)
 }

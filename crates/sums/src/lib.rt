@@ -9,7 +9,7 @@ ghost use Rattle.sums.specs.Sums.{add_row, sums_at};
 ghost use Rattle.sums.specs.Squashed.{squash_row, squash_sums, all_finite};
 
 use crate::factors::xs_at;
-use crate::rows::{Row, row_of};
+use crate::rows::{Factors, Row, row_of};
 use arithmetic::{both_finite, squash};
 use kept::Kept;
 
@@ -37,15 +37,18 @@ fn added(s: Sums, w: Row) -> Sums
     }
 }
 
-// The sums over the terms, in table order, at a density.
+// The sums over the terms, in table order, at a density. A row is read at one place of three tables; zipped, they would be pairs in pairs.
 fn summed(kept: Kept, delta: f64) -> Sums
     ensures { squash_sums result ≡ sums_at kept delta }
 {
-    let fluid = kept.fluid;
+    let Kept {
+        fluid,
+        tau,
+        powers,
+        bells,
+        ..
+    } = kept;
     let terms = fluids::terms(fluid);
-    let powers = kept.powers;
-    let bells = kept.bells;
-    let tau = kept.tau;
     let xs = xs_at(fluid, delta, bells);
     let mut s = Sums {
         s0: 0.0,
@@ -55,10 +58,14 @@ fn summed(kept: Kept, delta: f64) -> Sums
         t2: 0.0,
         st: 0.0,
     };
-    let mut i: usize = 0;
-    while i < 14 {
-        s = added(s, row_of(terms[i], delta, tau, powers[i], xs[i]));
-        i += 1;
+    for i in 0..14 {
+        let at = Factors {
+            delta,
+            tau,
+            power: powers[i],
+            x: xs[i],
+        };
+        s = added(s, row_of(terms[i], at));
     }
     s
 }
@@ -67,34 +74,24 @@ fn summed(kept: Kept, delta: f64) -> Sums
 fn all_finite(s: Sums) -> bool
     ensures { result ≡ all_finite s }
 {
-    if both_finite(s.s0, s.s1) {
-        if both_finite(s.s2, s.t1) {
-            return both_finite(s.t2, s.st);
-        }
-    }
-    false
+    both_finite(s.s0, s.s1) && both_finite(s.s2, s.t1) && both_finite(s.t2, s.st)
 }
 
-// The same sums, each one NaN where it is not finite. Most are: then nothing waits for a selection.
+// The same sums, each one NaN where it is not finite. Most are: then nothing waits for a selection. Field by field, here and above: the formulas
+// read the six by 01's names, and as an array they would lose them.
 fn settled(s: Sums) -> Sums
     ensures { result ≡ squash_sums s }
 {
     if all_finite(s) {
         return s;
     }
-    let s0 = squash(s.s0);
-    let s1 = squash(s.s1);
-    let s2 = squash(s.s2);
-    let t1 = squash(s.t1);
-    let t2 = squash(s.t2);
-    let st = squash(s.st);
     Sums {
-        s0,
-        s1,
-        s2,
-        t1,
-        t2,
-        st,
+        s0: squash(s.s0),
+        s1: squash(s.s1),
+        s2: squash(s.s2),
+        t1: squash(s.t1),
+        t2: squash(s.t2),
+        st: squash(s.st),
     }
 }
 

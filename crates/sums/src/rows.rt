@@ -4,7 +4,6 @@ ghost use Rattle.arithmetic.specs.Checked.{squash, minus, ◌⊖◌, ◌⊗◌};
 ghost use Rattle.exponentials.specs.Exp.{exp_of};
 ghost use Rattle.elementary.specs.Power.{◌↑◌};
 ghost use Rattle.fluids.specs.declared.Term.TheVariants as Kind;
-ghost use Rattle.fluids.specs.Finite.{Finite, FiniteTerm};
 ghost use Rattle.sums.specs.Rows.{x_at};
 ghost use Rattle.sums.specs.Squashed.{squash_row, row_from};
 ghost use Rattle.sums.specs.Factors.{Dampings};
@@ -22,11 +21,22 @@ pub struct Row {
     pub g: f64,
 }
 
-// exp(−δ) and exp(−δ²), which the damped terms share.
+// δ, with exp(−δ) and exp(−δ²), which the damped terms share.
 #[derive(Clone, Copy)]
 pub(crate) struct Damping {
+    pub delta: f64,
     pub first: f64,
     pub second: f64,
+    ghost shared: { Dampings (squash delta) first second },
+}
+
+// What a row is worked from beside its term: δ, τ, the power τᵗ and X.
+#[derive(Clone, Copy)]
+pub(crate) struct Factors {
+    pub delta: f64,
+    pub tau: f64,
+    pub power: f64,
+    pub x: f64,
 }
 
 // δᵈ: a repeated product from 1.
@@ -34,10 +44,8 @@ fn whole_power(x: f64, n: u32) -> f64
     ensures { squash result ≡ squash x ↑ n }
 {
     let mut p = 1.0;
-    let mut i: u32 = 0;
-    while i < n {
+    for _ in 0..n {
         p = p * x;
-        i += 1;
     }
     p
 }
@@ -46,13 +54,11 @@ fn whole_power(x: f64, n: u32) -> f64
 fn damped_exponent(l: u32, delta: f64) -> f64
     ensures { exp_of result ≡ exp_of (minus (squash delta ↑ l)) }
 {
-    let p = whole_power(delta, l);
-    -p
+    -whole_power(delta, l)
 }
 
 // −η·(δ−ε)·(δ−ε) − b.
 fn bell_exponent(eta: f64, epsilon: f64, delta: f64, part: f64) -> f64
-    requires { Finite eta × Finite epsilon }
     ensures { exp_of result ≡ exp_of (minus eta ⊗ (squash delta ⊖ epsilon) ⊗ (squash delta ⊖ epsilon) ⊖ squash part) }
 {
     let u = delta - epsilon;
@@ -61,75 +67,53 @@ fn bell_exponent(eta: f64, epsilon: f64, delta: f64, part: f64) -> f64
 
 // What X is the exponential of, with the bell's part that τ gives; 1 is that of 0.
 pub(crate) fn x_exponent(term: Term, delta: f64, part: f64) -> f64
-    requires { FiniteTerm term }
     ensures { exp_of result ≡ x_at (squash delta) (squash part) term }
 {
     match term {
-        Term::Plain { n: _, t: _, d: _ } => 0.0,
-        Term::Damped {
-            n: _,
-            t: _,
-            d: _,
-            l,
-        } => damped_exponent(l, delta),
-        Term::Bell {
-            n: _,
-            t: _,
-            d: _,
-            eta,
-            beta: _,
-            gamma: _,
-            epsilon,
-        } => { bell_exponent(eta, epsilon, delta, part) }
+        Term::Plain { .. } => 0.0,
+        Term::Damped { l, .. } => damped_exponent(l, delta),
+        Term::Bell { eta, epsilon, .. } => bell_exponent(eta, epsilon, delta, part),
     }
 }
 
 // exp(−δˡ), from the two that are worked already where it is one of them.
-fn damped_x(l: u32, delta: f64, damping: Damping) -> f64
-    requires { Dampings (squash delta) damping }
-    ensures { result ≡ exp_of (minus (squash delta ↑ l)) }
+fn damped_x(l: u32, damping: Damping) -> f64
+    ensures { result ≡ exp_of (minus (squash damping.delta ↑ l)) }
 {
-    if l == 1 {
-        return damping.first;
+    match l {
+        1 => damping.first,
+        2 => damping.second,
+        _ => exp(damped_exponent(l, damping.delta)),
     }
-    if l == 2 {
-        return damping.second;
-    }
-    exp(damped_exponent(l, delta))
 }
 
-// X of a term, with the damping that δ gives and the bell's part that τ gives.
-pub(crate) fn x_of(term: Term, delta: f64, damping: Damping, part: f64) -> f64
-    requires { FiniteTerm term × Dampings (squash delta) damping }
-    ensures { result ≡ x_at (squash delta) (squash part) term }
+// X of a term, with the damping that δ gives and the bell's part that τ gives. The cases are those of `x_exponent`, but not its exp: a plain term
+// needs none, and a damped one's is mostly worked already.
+pub(crate) fn x_of(term: Term, damping: Damping, part: f64) -> f64
+    ensures { result ≡ x_at (squash damping.delta) (squash part) term }
 {
     match term {
-        Term::Plain { n: _, t: _, d: _ } => 1.0,
-        Term::Damped {
-            n: _,
-            t: _,
-            d: _,
-            l,
-        } => damped_x(l, delta, damping),
-        Term::Bell {
-            n: _,
-            t: _,
-            d: _,
-            eta,
-            beta: _,
-            gamma: _,
-            epsilon,
-        } => { exp(bell_exponent(eta, epsilon, delta, part)) }
+        Term::Plain { .. } => 1.0,
+        Term::Damped { l, .. } => damped_x(l, damping),
+        Term::Bell { eta, epsilon, .. } => exp(bell_exponent(eta, epsilon, damping.delta, part)),
     }
 }
 
-fn plain(n: f64, t: f64, d: u32, delta: f64, tau: f64, power: f64, x: f64) -> Row
-    requires { Finite n × Finite t }
-    ensures { squash_row result ≡ row_from delta tau power x (Kind.Plain n t d) }
+// ((N·δᵈ)·τᵗ)·X.
+fn amount(n: f64, d: u32, at: Factors) -> f64
+    ensures { squash result ≡ ((n ⊗ squash at.delta ↑ d) ⊗ squash at.power) ⊗ squash at.x }
+{
+    n * whole_power(at.delta, d) * at.power * at.x
+}
+
+// Each kind of term has formulas of its own for q, r, f and g; what the three share is `amount`. They take the fields that the match in `row_of`
+// reads off the term.
+fn plain(n: f64, t: f64, d: u32, at: Factors) -> Row
+    ensures { squash_row result ≡ squash_row (row_from at.delta at.tau at.power at.x (Kind.Plain n t d)) }
 {
     let q = d as f64;
     Row {
-        a: n * whole_power(delta, d) * power * x,
+        a: amount(n, d, at),
         q,
         r: t,
         f: q * q - q,
@@ -137,16 +121,15 @@ fn plain(n: f64, t: f64, d: u32, delta: f64, tau: f64, power: f64, x: f64) -> Ro
     }
 }
 
-fn damped(n: f64, t: f64, d: u32, l: u32, delta: f64, tau: f64, power: f64, x: f64) -> Row
-    requires { Finite n × Finite t }
-    ensures { squash_row result ≡ row_from delta tau power x (Kind.Damped n t d l) }
+fn damped(n: f64, t: f64, d: u32, l: u32, at: Factors) -> Row
+    ensures { squash_row result ≡ squash_row (row_from at.delta at.tau at.power at.x (Kind.Damped n t d l)) }
 {
-    let p = whole_power(delta, l);
+    let p = whole_power(at.delta, l);
     let k = l as f64;
     let whole = d as f64;
     let q = whole - k * p;
     Row {
-        a: n * whole_power(delta, d) * power * x,
+        a: amount(n, d, at),
         q,
         r: t,
         f: (q * q - q) - (k * k) * p,
@@ -154,27 +137,15 @@ fn damped(n: f64, t: f64, d: u32, l: u32, delta: f64, tau: f64, power: f64, x: f
     }
 }
 
-fn bell(
-    n: f64,
-    t: f64,
-    d: u32,
-    eta: f64,
-    beta: f64,
-    gamma: f64,
-    epsilon: f64,
-    delta: f64,
-    tau: f64,
-    power: f64,
-    x: f64,
-) -> Row
-    requires { Finite n × Finite t × Finite eta × Finite beta × Finite gamma × Finite epsilon }
-    ensures { squash_row result ≡ row_from delta tau power x (Kind.Bell n t d eta beta gamma epsilon) }
+fn bell(n: f64, t: f64, d: u32, eta: f64, beta: f64, gamma: f64, epsilon: f64, at: Factors) -> Row
+    ensures { squash_row result ≡ squash_row (row_from at.delta at.tau at.power at.x (Kind.Bell n t d eta beta gamma epsilon)) }
 {
+    let Factors { delta, tau, .. } = at;
     let whole = d as f64;
     let q = whole - 2.0 * eta * delta * (delta - epsilon);
     let r = t - 2.0 * beta * tau * (tau - gamma);
     Row {
-        a: n * whole_power(delta, d) * power * x,
+        a: amount(n, d, at),
         q,
         r,
         f: (q * q - whole) - 2.0 * eta * delta * delta,
@@ -183,13 +154,12 @@ fn bell(
 }
 
 // A, q, r, f, g of a term, from its power τᵗ and its X.
-pub(crate) fn row_of(term: Term, delta: f64, tau: f64, power: f64, x: f64) -> Row
-    requires { FiniteTerm term }
-    ensures { squash_row result ≡ row_from delta tau power x term }
+pub(crate) fn row_of(term: Term, at: Factors) -> Row
+    ensures { squash_row result ≡ squash_row (row_from at.delta at.tau at.power at.x term) }
 {
     match term {
-        Term::Plain { n, t, d } => plain(n, t, d, delta, tau, power, x),
-        Term::Damped { n, t, d, l } => damped(n, t, d, l, delta, tau, power, x),
+        Term::Plain { n, t, d } => plain(n, t, d, at),
+        Term::Damped { n, t, d, l } => damped(n, t, d, l, at),
         Term::Bell {
             n,
             t,
@@ -198,6 +168,6 @@ pub(crate) fn row_of(term: Term, delta: f64, tau: f64, power: f64, x: f64) -> Ro
             beta,
             gamma,
             epsilon,
-        } => { bell(n, t, d, eta, beta, gamma, epsilon, delta, tau, power, x) }
+        } => bell(n, t, d, eta, beta, gamma, epsilon, at),
     }
 }

@@ -4,41 +4,10 @@
 // reply, or dashes where refused.
 #![tactic(auto)]
 
-ghost use Rattle.std.specs.Prelude.{◌≡◌, ◌+◌, ◌≤◌, length};
+ghost use Rattle.std.specs.Prelude.{◌≤◌, length};
 
-use probe_words::Reply;
-use refusals::code;
-use std::io::{self, ErrorKind, Read};
+use std::io;
 use words::word;
-
-// Room for 8,190 questions.
-fn question_block() -> [u8; 196560]
-    ensures { 196560 ≡ length result }
-{
-    [0; 196560]
-}
-
-// Reads on until the block is full, or the input ends or cannot be read: how many bytes it has.
-fn read_block(rt: &HostRuntime, block: &mut [u8]) -> usize
-    ensures { result ≤ length block.old }
-{
-    let mut n = 0;
-    for _ in 0..u64::MAX {
-        if n >= block.len() {
-            return n;
-        }
-        match rt.stdin().read(&mut block[n..]) {
-            Ok(0) => return n,
-            Ok(more) => n += more,
-            Err(e) => {
-                if e.kind() != ErrorKind::Interrupted {
-                    return n;
-                }
-            }
-        }
-    }
-    n
-}
 
 // The line of the question at the front of s.
 fn print_line(rt: &HostRuntime, s: &[u8]) -> io::Result<()>
@@ -48,31 +17,28 @@ fn print_line(rt: &HostRuntime, s: &[u8]) -> io::Result<()>
     let first = word(&s[8..]);
     let second = word(&s[16..]);
     match probe_replies::reply_to(call, first, second) {
-        Reply::Holds(bits) => println!(rt; "{call} {first:016x} {second:016x} 0 {bits:016x}"),
-        Reply::Refused(r) => {
+        Ok(bits) => println!(rt; "{call} {first:016x} {second:016x} 0 {bits:016x}"),
+        Err(r) => {
             println!(rt;
                 "{call} {first:016x} {second:016x} {} ----------------",
-                code(r)
+                u32::from(r)
             )
         }
     }
 }
 
+// A piece shorter than 24 bytes at the end has no line.
 fn print_lines(rt: &HostRuntime, s: &[u8]) -> io::Result<()> {
-    let mut from: usize = 0;
-    while from < s.len() {
-        if s.len() - from < 24 {
-            return Ok(());
-        }
-        print_line(rt, &s[from..])?;
-        from += 24;
+    for question in s.chunks_exact(24) {
+        print_line(rt, question)?;
     }
     Ok(())
 }
 
+// Answers the first 8,190 questions, in fixed memory.
 fn main(rt: HostRuntime) -> io::Result<()> {
-    let mut input = question_block();
-    let n = read_block(&rt, &mut input);
+    let mut input = [0; 196560];
+    let (n, _) = blocks::fill(&mut rt.stdin(), &mut input);
     println!(rt; "call first second code bits")?;
     print_lines(&rt, &input[..n])
 }

@@ -1,9 +1,9 @@
-// The calls for C, thin over the crates that do the work: include/verriblom.h says what each is asked and answers.
+// The calls for C, thin over the crates that do the work: include/verriblom.h says what each is asked and answers. C has no Result and none of
+// these enums: a call gives a code, takes numbers for a kind and a fluid, and has its outputs side by side.
 #![tactic(auto)]
 
 ghost use Rattle.std.specs.Prelude.{◌≡◌};
-ghost use Rattle.refusals.specs.declared.Permit.TheVariants.{Denied};
-ghost use Rattle.refusals.specs.Code.{permit_code_of};
+ghost use Rattle.refusals.specs.Code.{answer_code_of};
 ghost use Rattle.inputs.specs.Numbered.{by_number};
 ghost use Rattle.coexistence.specs.Judge.{judge_of};
 ghost use Rattle.coexistence.specs.Call.{saturation_of};
@@ -13,7 +13,7 @@ ghost use Rattle.writing.specs.Write.{write_of};
 
 use coexistence::{accept, saturation_into};
 use questions::answer_into;
-use refusals::permit_code;
+use refusals::answer_code;
 use runs::answers_into;
 use writing::write;
 
@@ -23,7 +23,7 @@ pub fn verriblom_answer(marked: &[u8], out: &mut [u8]) -> u32
     ensures { (result ≡ call_code marked.now out.old)
         × (out.new ≡ call_output marked.now out.old) }
 {
-    answer_into(marked, out)
+    answer_code(answer_into(marked, out))
 }
 
 // Answers a run of records, each as `verriblom_answer` does with its own eight bytes of out: 0, and for each record in turn its code in codes, and its
@@ -34,7 +34,7 @@ pub fn verriblom_answers(run: &[u8], out: &mut [u8], codes: &mut [u32]) -> u32
         × (out.new ≡ run_output run.now out.old codes.old)
         × (codes.new ≡ run_codes run.now out.old codes.old) }
 {
-    answers_into(run, out, codes)
+    answer_code(answers_into(run, out, codes))
 }
 
 // Writes the record of a kind, a fluid and two numbers' bits into the 18 bytes of buffer from place on, its other bytes as they were: 0. The kind is the
@@ -50,7 +50,7 @@ pub fn verriblom_write(
 ) -> u32
     ensures { (result, buffer.new) ≡ write_of kind fluid first second buffer.old place }
 {
-    write(kind, fluid, first, second, buffer, place)
+    answer_code(write(kind, fluid, first, second, buffer, place))
 }
 
 // The saturation pair of a fluid at t K: 0, and the bits of the liquid's and then of the vapour's density, mol/dm³, in the first sixteen bytes of out, the
@@ -58,13 +58,13 @@ pub fn verriblom_write(
 pub fn verriblom_saturation(fluid: u32, t: f64, out: &mut [u8]) -> u32
     ensures { (result, out.new) ≡ saturation_of fluid t out.old }
 {
-    saturation_into(fluid, t, out)
+    answer_code(saturation_into(fluid, t, out))
 }
 
 // Whether a liquid's and a vapour's density, mol/dm³, are a saturation pair of a fluid at t K: 0; or 17, 2, 3, 4, 19 where t is not below the critical
 // temperature or the densities are not on either side of the critical one, 12, 19 where the two states do not agree.
 pub fn verriblom_accept(fluid: u32, t: f64, liquid: f64, vapour: f64) -> u32
-    ensures { result ≡ permit_code_of (by_number Denied fluid (λ F. judge_of F t liquid vapour)) }
+    ensures { result ≡ answer_code_of (by_number Err fluid (λ F. judge_of F t liquid vapour)) }
 {
-    permit_code(accept(fluid, t, liquid, vapour))
+    answer_code(accept(fluid, t, liquid, vapour))
 }

@@ -1,10 +1,9 @@
 // The archive for C: each function hands on to the one of its name in the crate verriblom, under the same promise. include/verriblom.h says what
-// each is asked and answers.
+// each is asked and answers. Two functions for each name: theorems are about a library's functions, and an archive is not one.
 #![tactic(auto)]
 
 ghost use Rattle.std.specs.Prelude.{◌≡◌};
-ghost use Rattle.refusals.specs.declared.Permit.TheVariants.{Denied};
-ghost use Rattle.refusals.specs.Code.{permit_code_of};
+ghost use Rattle.refusals.specs.Code.{answer_code_of};
 ghost use Rattle.inputs.specs.Numbered.{by_number};
 ghost use Rattle.coexistence.specs.Judge.{judge_of};
 ghost use Rattle.coexistence.specs.Call.{saturation_of};
@@ -64,7 +63,7 @@ pub extern "C" fn verriblom_saturation(fluid: u32, t: f64, out: &mut [u8]) -> u3
 // temperature or the densities are not on either side of the critical one, 12, 19 where the two states do not agree.
 #[unsafe(no_mangle)]
 pub extern "C" fn verriblom_accept(fluid: u32, t: f64, liquid: f64, vapour: f64) -> u32
-    ensures { result ≡ permit_code_of (by_number Denied fluid (λ F. judge_of F t liquid vapour)) }
+    ensures { result ≡ answer_code_of (by_number Err fluid (λ F. judge_of F t liquid vapour)) }
 {
     verriblom::verriblom_accept(fluid, t, liquid, vapour)
 }

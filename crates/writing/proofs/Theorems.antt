@@ -7,21 +7,21 @@ use Prim.Native.Nat.{ℕ, ◌+◌, ◌^◌, ◌≤◌, ◌<◌}
 use borrow.Author.Tests.{le-leb, lt-leb, leb-true, leb-false}
 use lib.Dec.{leb}
 use lib.ListN.{length, take, drop, replicate}
+use Rattle.std.specs.Prelude.{Result, Ok, Err}
+use Rattle.refusals.specs.declared.Refusal.{Refusal}
+use Rattle.refusals.specs.declared.Refusal.TheVariants.{UnknownMark, UnknownFluid}
 use Rattle.refusals.specs.Code.{OneOf}
 use Rattle.refusals.proofs.Tests.{by}
 use Rattle.refusals.proofs.Apart.{another_code}
 use Rattle.words.specs.Word.{Bytes, placed}
 use Rattle.words.proofs.Placed.{placed_before, placed_there, placed_after}
 use Rattle.fluids.specs.declared.Fluid.{Fluid}
-use Rattle.fluids.specs.declared.Named.{Named}
 use Rattle.fluids.specs.Entries.{fluid_numbered}
+use Rattle.fluids.proofs.Lettered.{unnumbered}
 use Rattle.records.specs.declared.Kind.{Kind}
-use Rattle.records.specs.declared.Lettered.{Lettered}
-use Rattle.records.specs.declared.Lettered.TheVariants.{Known, Unknown}
-use Rattle.records.specs.declared.Record.TheVariants.{Marked}
-use Rattle.records.specs.Record.{kind_lettered, carries_numbers, carried, layout_of, record_of}
+use Rattle.records.specs.Record.{kind_lettered, carries_numbers, carried, layout_of, marked, record_of}
 use Rattle.records.proofs.Laid.{carried_some, layout_length}
-use Rattle.records.proofs.RoundTrip.{read_of_written, written_of_read, written_of_no_reading}
+use Rattle.records.proofs.RoundTrip.{unlettered, read_of_written, written_of_read, written_of_no_reading}
 use Rattle.writing.specs.Write.{Ended, written_of, write_of}
 use Rattle.writing.proofs.Placing.{with_room, without_room}
 
@@ -29,33 +29,33 @@ use Rattle.writing.proofs.Placing.{with_room, without_room}
 
 -- a kind has the letter; a fluid has the number
 abbrev pub NamesKind : ℕ → Type 0
-NamesKind n = (kind : Kind) × (kind_lettered n ≡ Known kind)
+NamesKind n = (kind : Kind) × (kind_lettered n ≡ Ok kind)
 
 abbrev pub NamesFluid : ℕ → Type 0
-NamesFluid n = (F : Fluid) × (fluid_numbered n ≡ Named.Known F)
+NamesFluid n = (F : Fluid) × (fluid_numbered n ≡ Ok F)
 
-by_kind : {X : Type 0} (n : ℕ) → (kind_lettered n ≡ Unknown → X) → (NamesKind n → X) → X
+by_kind : {X : Type 0} (n : ℕ) → (kind_lettered n ≡ Err UnknownMark → X) → (NamesKind n → X) → X
 by_kind {X} n none some = go (kind_lettered n) refl
   where
-    go : (l : Lettered) → kind_lettered n ≡ l → X
-    go (Known kind) e = some (kind, e)
-    go Unknown e = none e
+    go : (l : Result Kind Refusal) → kind_lettered n ≡ l → X
+    go (Ok kind) e = some (kind, e)
+    go (Err r) e = none (e ∙ ap Err (unlettered n e))
 
-by_fluid_lem : {X : Type 0} (n : ℕ) → (fluid_numbered n ≡ Named.Unknown → X) → (NamesFluid n → X) → X
+by_fluid_lem : {X : Type 0} (n : ℕ) → (fluid_numbered n ≡ Err UnknownFluid → X) → (NamesFluid n → X) → X
 by_fluid_lem {X} n none some = go (fluid_numbered n) refl
   where
-    go : (l : Named) → fluid_numbered n ≡ l → X
-    go (Named.Known F) e = some (F, e)
-    go Named.Unknown e = none e
+    go : (l : Result Fluid Refusal) → fluid_numbered n ≡ l → X
+    go (Ok F) e = some (F, e)
+    go (Err r) e = none (e ∙ ap Err (unnumbered n e))
 
 module _ (kind fluid x y : ℕ) (buffer : List ℕ) (place : ℕ) where
   -- ---- the four ways in which the call ends
 
-  ends_with_14 : kind_lettered kind ≡ Unknown → write_of kind fluid x y buffer place ≡ (14, buffer)
+  ends_with_14 : kind_lettered kind ≡ Err UnknownMark → write_of kind fluid x y buffer place ≡ (14, buffer)
   unfolding write_of
   ends_with_14 e = simp e
 
-  ends_with_17 : NamesKind kind → fluid_numbered fluid ≡ Named.Unknown → write_of kind fluid x y buffer place ≡ (17, buffer)
+  ends_with_17 : NamesKind kind → fluid_numbered fluid ≡ Err UnknownFluid → write_of kind fluid x y buffer place ≡ (17, buffer)
   unfolding write_of written_of
   ends_with_17 k e = simp (k.1, e)
 
@@ -71,7 +71,7 @@ module _ (kind fluid x y : ℕ) (buffer : List ℕ) (place : ℕ) where
   code_is : {n : ℕ} {l : List ℕ} → write_of kind fluid x y buffer place ≡ (n, l) → (write_of kind fluid x y buffer place).0 ≡ n
   code_is ends = ap (λ (x : Ended). x.0) ends
 
-  by_end : {X : Type 0} → (kind_lettered kind ≡ Unknown → X) → (NamesKind kind → fluid_numbered fluid ≡ Named.Unknown → X) →
+  by_end : {X : Type 0} → (kind_lettered kind ≡ Err UnknownMark → X) → (NamesKind kind → fluid_numbered fluid ≡ Err UnknownFluid → X) →
       (NamesKind kind → NamesFluid fluid → length buffer < place + 18 → X) → (NamesKind kind → NamesFluid fluid → place + 18 ≤ length buffer → X) → X
   by_end no_kind no_fluid no_room written =
       by_kind kind no_kind
@@ -82,7 +82,7 @@ module _ (kind fluid x y : ℕ) (buffer : List ℕ) (place : ℕ) where
 
   -- ---- its codes, each exactly where it is owed: 14, then 17, then 7
 
-  pub exactly_fourteen : ((write_of kind fluid x y buffer place).0 ≡ 14) ↔ (kind_lettered kind ≡ Unknown)
+  pub exactly_fourteen : ((write_of kind fluid x y buffer place).0 ≡ 14) ↔ (kind_lettered kind ≡ Err UnknownMark)
   exactly_fourteen = (
     λ e. by_end
         (λ u. u)
@@ -92,7 +92,7 @@ module _ (kind fluid x y : ℕ) (buffer : List ℕ) (place : ℕ) where
     λ u. code_is (ends_with_14 u),
   )
 
-  pub exactly_seventeen : ((write_of kind fluid x y buffer place).0 ≡ 17) ↔ (NamesKind kind × (fluid_numbered fluid ≡ Named.Unknown))
+  pub exactly_seventeen : ((write_of kind fluid x y buffer place).0 ≡ 17) ↔ (NamesKind kind × (fluid_numbered fluid ≡ Err UnknownFluid))
   exactly_seventeen = (
     λ e. by_end
         (λ u. another_code tt (code_is (ends_with_14 u)) e)
@@ -164,16 +164,16 @@ module _ (kind fluid x y : ℕ) (buffer : List ℕ) (place : ℕ) where
 
     -- reading them gives the kind, the fluid and what a record of the kind carries
     pub read_back : x < 2 ^ 64 → y < 2 ^ 64 →
-        record_of (take 18 (drop place (write_of kind fluid x y buffer place).1)) ≡ Marked k.0 f.0 (carried k.0 x) (carried k.0 y)
+        record_of (take 18 (drop place (write_of kind fluid x y buffer place).1)) ≡ Ok (marked k.0 f.0 (carried k.0 x) (carried k.0 y))
     read_back fits_x fits_y = ap record_of record_there ∙ read_of_written k.0 f.0 x y fits_x fits_y
 
     -- and so for D, B, A and P the same bits
     pub read_back_numbers : carries_numbers k.0 ≡ true → x < 2 ^ 64 → y < 2 ^ 64 →
-        record_of (take 18 (drop place (write_of kind fluid x y buffer place).1)) ≡ Marked k.0 f.0 x y
+        record_of (take 18 (drop place (write_of kind fluid x y buffer place).1)) ≡ Ok (marked k.0 f.0 x y)
     read_back_numbers some fits_x fits_y =
         read_back fits_x fits_y ∙ simp (carried_some k.0 x some, carried_some k.0 y some)
 
-    module _ (s : List ℕ) (read : record_of s ≡ Marked k.0 f.0 x y) where
+    module _ (s : List ℕ) (read : record_of s ≡ Ok (marked k.0 f.0 x y)) where
       -- writing what was read gives the same 18 bytes
       pub write_back : Bytes s → carries_numbers k.0 ≡ true → write_of kind fluid x y buffer place ≡ (0, placed place s buffer)
       write_back each some =

@@ -1,6 +1,6 @@
--- `found_density` meets its contract, by the two forms of what was found; 0/0, worked out, is `nan`. Assumes nothing.
-use Rattle.arithmetic.proofs.Literals.{lit_nan}
+-- `found_density` meets its contract, by the two forms of what was found. Assumes nothing.
+use Rattle.bench.proofs.Nan.{density_or}
 use Rattle.bench.proofs.found_density.Goals as goal
 
-pub returns-in-Refused : goal.returns-in-Refused
-returns-in-Refused c = rw c.in-Refused.is lit_nan
+pub returns : goal.returns
+returns c = rw (c.number_or_nan.ensures, c.found_answer.ensures) (density_or c.args.found)

@@ -3,7 +3,7 @@ use mathlib.Core.Path.{◌≡◌, sym, ◌∙◌}
 use Rattle.arithmetic.specs.Checked.{real, minus, ◌⊖◌, ◌⊘◌}
 use Rattle.exponentials.specs.Exp.{exp_of}
 use Rattle.logarithms.specs.Ln.{ln_of}
-use Rattle.arithmetic.proofs.Operations.{squash_mul, squash_sub, squash_neg, squash_over}
+use Rattle.arithmetic.proofs.Operations.{operations}
 use Rattle.exponentials.proofs.ExpRange.{exp_squash, exp_squashed}
 use Rattle.logarithms.proofs.Ranges.{ln_squash, ln_squashed}
 use Rattle.arithmetic.proofs.Literals.{lit_1, squash_1}
@@ -14,7 +14,7 @@ pub returns : goal.returns
 unfolding part0
 returns c =
     let below : c.exp-below.result ≡ exp_of (minus (c.args.pair.u ⊘ c.args.t)) =
-    c.exp-below.ensures ∙ sym (exp_squash _) ∙ simp (squash_neg, squash_over, c.requires.1) in
+    c.exp-below.ensures ∙ sym (exp_squash _) ∙ simp operations in
     let logged : c.ln.result ≡ ln_of (real 1 ⊖ exp_of (minus (c.args.pair.u ⊘ c.args.t))) =
-    c.ln.ensures ∙ sym (ln_squash _) ∙ simp (squash_sub, lit_1, squash_1, below, exp_squashed) in
-    simp (squash_mul, logged, ln_squashed, c.requires.0)
+    c.ln.ensures ∙ sym (ln_squash _) ∙ simp (operations, lit_1, squash_1, below, exp_squashed) in
+    simp (operations, logged, ln_squashed)

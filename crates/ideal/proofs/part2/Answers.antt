@@ -1,9 +1,8 @@
 -- `part2` meets its contract: squash goes through each operation, and the divisor, which is worked, is tested. Assumes nothing.
-use mathlib.Core.Path.{◌≡◌, sym, ◌∙◌, ap}
-use lib.Ieee.{Float}
+use mathlib.Core.Path.{◌≡◌, sym, ◌∙◌}
 use Rattle.arithmetic.specs.Checked.{◌⊘◌}
 use Rattle.exponentials.specs.Exp.{exp_of}
-use Rattle.arithmetic.proofs.Operations.{squash_mul, squash_sub, squash_over, ⊘_squashed}
+use Rattle.arithmetic.proofs.Operations.{operations}
 use Rattle.arithmetic.proofs.Forced.{forced}
 use Rattle.exponentials.proofs.ExpRange.{exp_squash, exp_squashed}
 use Rattle.arithmetic.proofs.Literals.{lit_1, squash_1}
@@ -14,6 +13,5 @@ pub returns : goal.returns
 unfolding part2
 returns c =
     let w : c.exp-w.result ≡ exp_of (c.args.pair.u ⊘ c.args.t) =
-    c.exp-w.ensures ∙ sym (exp_squash _) ∙ ap exp_of (squash_over _ _ ∙ ap (λ (z : Float). z ⊘ c.args.t) c.requires.1) in
-    simp
-    (c.over.ensures, ⊘_squashed, squash_mul, squash_sub, w, exp_squashed, squash_over, c.requires.0, c.requires.1, lit_1, squash_1, forced)
+    c.exp-w.ensures ∙ sym (exp_squash _) ∙ simp operations in
+    simp (operations, c.over.ensures, w, exp_squashed, lit_1, squash_1, forced)

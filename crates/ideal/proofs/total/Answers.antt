@@ -1,29 +1,37 @@
--- `total` meets its contract. The loop's invariant: s is the sum over the first i pairs. The measure is what is left of them.
--- Assumes nothing.
+-- `total` meets its contract. The loop's invariant: s is the sum over the pairs so far. Assumes nothing.
 use mathlib.Core.Path.{◌≡◌, sym, ◌∙◌, ap}
+use mathlib.Core.List.{List}
+use Prim.Native.Nat.{ℕ, ◌+◌}
+use native.Mathlib.Numerals.{add-one}
+use lib.Ieee.{Float, binary64, add}
+use lib.ListN.{get_or}
+use Rattle.arithmetic.specs.Checked.{squash}
+use Rattle.arithmetic.proofs.Operations.{squash_add}
+use Rattle.arithmetic.proofs.Forced.{forced}
+use Rattle.fluids.specs.declared.Pair.{Pair}
+use Rattle.fluids.specs.Entry.{no_pair}
+use Rattle.ideal.specs.Ideal.{total_to, total_of}
 use native.Mathlib.Omega.{arith}
 use Rattle.arithmetic.proofs.Literals.{lit_0, squash_0}
 use Rattle.fluids.proofs.Sound.{sound}
-use Rattle.ideal.specs.Ideal.{part_of, total_to, total_of}
-use Rattle.ideal.proofs.Pairs.{read_pair, read_pair_finite}
-use Rattle.ideal.proofs.Turn.{total_turn, total_over}
 use Rattle.ideal.proofs.total.Goals as goal
+
+total_turn :
+    (part : Pair → Float) (pairs : List Pair) (i : ℕ) (s x : Float) → squash s ≡ total_to part pairs i → squash x ≡ part (get_or pairs i no_pair) →
+    squash (add binary64 s x) ≡ total_to part pairs (i + 1)
+unfolding total_to
+total_turn part pairs i s x p q = squash_add s x ∙ rw (add-one, p, q) (sym (forced _ _))
 
 pub loop-i-init : goal.loop-i-init
 unfolding total_to
-loop-i-init c = (omega arith, simp (lit_0, squash_0))
-
-pub part_of-s-requires : goal.part_of-s-requires
-part_of-s-requires c = read_pair_finite _ _ c.pairs-pairs.ensures _ _ c.loop-i-test.true
+loop-i-init g c = λ added gives. simp (lit_0, squash_0)
 
 pub loop-i-preserved : goal.loop-i-preserved
-loop-i-preserved c =
-    let pair = read_pair _ _ c.pairs-pairs.ensures _ c.loop-i.i c.loop-i-test.true in
-    let part = part_of c.args.part c.args.t in
-    (omega arith, total_turn part c.pairs-pairs.result c.loop-i.i _ _ c.loop-i.invariant.1 (c.part_of-s.ensures ∙ ap part pair))
+loop-i-preserved g c =
+    λ added gives. total_turn added _ _ _ _ (c.loop-i.invariant added gives) (gives _ _ (rw c.pairs-pairs.ensures at c.part-s.ensures))
 
 pub returns : goal.returns
 unfolding total_of
-returns c =
+returns g c =
     let z : c.loop-i.i ≡ 3 = omega arith in
-    total_over _ _ _ _ _ _ c.loop-i.invariant.1 c.pairs-pairs.ensures (z ∙ sym (sound _).three)
+    λ added gives. c.loop-i.invariant added gives ∙ ap (total_to added _) (z ∙ sym (sound _).three)

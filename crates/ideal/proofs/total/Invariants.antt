@@ -1,13 +1,12 @@
--- `total` meets its contract. The loop's invariant: s is the sum over the first i pairs. The measure is what is left of them.
--- Assumes nothing.
+-- `total` meets its contract. The loop's invariant: s is the sum over the pairs so far. Assumes nothing.
 use mathlib.Core.Path.{◌≡◌}
-use Prim.Native.Nat.{◌≤◌, ◌-◌}
 use Rattle.arithmetic.specs.Checked.{squash}
-use Rattle.ideal.specs.Ideal.{part_of, total_to}
+use lib.Ieee.{Float}
+use Rattle.fluids.specs.declared.Pair.{Pair}
+use Rattle.fluids.specs.Entries.{entry_of}
+use Rattle.ideal.specs.Ideal.{Gives, total_to}
 use Rattle.ideal.proofs.total.Given as goal
 
 abbrev pub invariant-loop-i : goal.invariant-loop-i
-invariant-loop-i l = (l.i ≤ 3) × (squash l.s ≡ total_to (part_of l.part l.t) l.pairs l.i)
-
-abbrev pub decreases-loop-i : goal.decreases-loop-i
-decreases-loop-i l = 3 - l.i
+invariant-loop-i g l =
+    (added : Pair → Float) → Gives (goal.F-post g l.part) added → squash l.s ≡ total_to added (entry_of l.fn.fluid).pairs l.i

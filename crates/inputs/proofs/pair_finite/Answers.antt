@@ -5,5 +5,5 @@ use Rattle.inputs.proofs.pair_finite.Goals as goal
 pub returns-then-finite : goal.returns-then-finite
 returns-then-finite c = then_second _ c.finite.ensures c.if-finite.true c.both_finite.ensures
 
-pub returns : goal.returns
-returns c = not_first _ c.finite.ensures c.if-finite.false
+pub returns-else-finite : goal.returns-else-finite
+returns-else-finite c = not_first _ c.finite.ensures c.if-finite.false

@@ -8,6 +8,6 @@ pub returns-then-c-n : goal.returns-then-c-n
 unfolding room_of
 returns-then-c-n c = sym (simp (lt-ltb _ _ c.if-c-n.true))
 
-pub returns : goal.returns
+pub returns-else-c-n : goal.returns-else-c-n
 unfolding room_of
-returns c = sym (simp (le-ltb _ _ c.if-c-n.false))
+returns-else-c-n c = sym (simp (le-ltb _ _ c.if-c-n.false))

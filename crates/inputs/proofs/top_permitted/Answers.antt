@@ -10,5 +10,5 @@ returns-then-c-ge1 c =
     let top = ap (λ (k : Constants). leb c.args.c k.top_cells) c.single_numbers-numbers.ensures in
     sym (simp (le-leb _ _ c.if-c-ge1.true, sym top))
 
-pub returns : goal.returns
-returns c = sym (simp (lt-leb _ _ c.if-c-ge1.false))
+pub returns-else-c-ge1 : goal.returns-else-c-ge1
+returns-else-c-ge1 c = sym (simp (lt-leb _ _ c.if-c-ge1.false))

@@ -13,7 +13,7 @@ use Rattle.kept.proofs.keep.Goals as goal
 pub returns : goal.returns
 unfolding kept_of
 returns c =
-    let critical = ap (λ (k : Constants). k.critical_temperature) c.single_numbers-numbers.ensures in
+    let critical = ap (λ (k : Constants). k.critical_temperature) c.single_numbers.ensures in
     let tau : c.squash-tau.result ≡ (entry_of c.args.fluid).Tc ⊘ c.args.t =
     c.squash-tau.ensures ∙ squash_over _ _ ∙ ap (λ (z : Float). squash z ⊘ c.args.t) critical ∙ ap (λ (z : Float). z ⊘ c.args.t) (sound c.args.fluid).Tc in
-    simp (forced, c.powers_at-powers.ensures, c.bells_at-bells.ensures, c.ln-ln_tau.ensures, tau, ⊘_squashed)
+    simp (forced, c.powers_at.ensures, c.bells_at.ensures, c.ln-ln_tau.ensures, tau, ⊘_squashed)

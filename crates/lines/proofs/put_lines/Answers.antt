@@ -1,4 +1,4 @@
--- `put_lines` meets its contract: nothing where the lines do not fit, else all of them. Assumes nothing.
+-- `put_lines` meets its contract: nothing where the lines do not fit, else all of them.
 use mathlib.Core.Path.{◌≡◌, sym, ◌∙◌, ap}
 use mathlib.Core.Bool.{true, false}
 use mathlib.Core.List.{List, ◌++◌}
@@ -38,8 +38,8 @@ pub returns-then-out-length : goal.returns-then-out-length
 returns-then-out-length c =
     none_put c.args.first c.args.input.now c.args.out.now (room_short _ _ _ c.if-out-length.true)
 
-pub returns-then-numbers-wanted : goal.returns-then-numbers-wanted
-returns-then-numbers-wanted c =
+pub returns-then-first-length : goal.returns-then-first-length
+returns-then-first-length c =
     none_put c.args.first c.args.input.now c.args.out.now (numbers_short _ _ _ c.if-out-length.false (omega arith))
 
 pub returns : goal.returns

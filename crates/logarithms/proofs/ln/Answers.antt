@@ -1,15 +1,15 @@
--- `ln` meets its contract: its two tests are those of `within`, and in range the parts are those of the definition. Assumes
--- nothing.
-use mathlib.Core.Path.{◌≡◌, sym, ◌∙◌}
+-- `ln` meets its contract: its test is that of `within`, and in range the parts are those of the definition. Assumes nothing.
+use mathlib.Core.Path.{◌≡◌, refl, sym, ◌∙◌}
 use mathlib.Core.Bool.{true, not, true≢false}
+use Prim.Native.Nat.{◌^◌}
+use borrow.Author.Rules.{rules}
 use lib.Dec.{T}
-use lib.Ieee.{Float, nan, inf, fin, is_nan}
+use lib.Ieee.{Float, nan, inf, fin, is_nan, of_bits, le}
 use lib.Ieee.Scale.{finite}
+use Rattle.arithmetic.specs.Checked.{real, two⁻, within, between}
 use Rattle.logarithms.specs.Ln.{ln_of}
-use Rattle.arithmetic.proofs.Within.{within_in, within_low, within_high, finite_within}
-use Rattle.logarithms.proofs.Literals.{lit_two⁻60, lit_two60, finite_two⁻60, finite_two60}
-use Rattle.arithmetic.proofs.Literals.{lit_nan}
-use Rattle.logarithms.proofs.ExactSplit.{m_low, m_high}
+use Rattle.arithmetic.proofs.Within.{finite_within}
+use Rattle.logarithms.proofs.Literals.{lit_range, finite_two⁻60, finite_two60}
 use Rattle.logarithms.proofs.ln.Goals as goal
 
 finite_no_nan : (x : Float) → finite x ≡ true → T (not (is_nan x))
@@ -18,23 +18,18 @@ finite_no_nan nan p = absurd (true≢false (sym p))
 finite_no_nan (inf s) p = tt
 finite_no_nan (fin s m e) p = tt
 
-pub split-p-requires : goal.split-p-requires
-split-p-requires c = finite_no_nan _ (finite_within _ _ _ finite_two⁻60 finite_two60 (rw lit_two⁻60 at c.if-x.true) (rw lit_two60 at c.if-x-2.true))
+pub split-requires : goal.split-requires
+split-requires c =
+    let test : between (two⁻ 60) c.args.x (real (2 ^ 60)) ≡ true = sym (c.between.ensures ∙ lit_range c.args.x) ∙ c.if-between.true in
+    let low : le (two⁻ 60) c.args.x ≡ true = search rules in
+    let high : le c.args.x (real (2 ^ 60)) ≡ true = search rules in
+    finite_no_nan _ (finite_within _ _ _ finite_two⁻60 finite_two60 low high)
 
-pub work-requires : goal.work-requires
-work-requires c = rw c.split-p.ensures.0 (m_low _, m_high _)
+pub returns-then-between : goal.returns-then-between
+unfolding ln_of within
+returns-then-between c =
+    c.squash.ensures ∙ c.work.ensures ∙ simp (c.split.ensures.0, c.split.ensures.1, sym (c.between.ensures ∙ lit_range c.args.x) ∙ c.if-between.true)
 
-pub returns-then-x-2 : goal.returns-then-x-2
-unfolding ln_of
-returns-then-x-2 c =
-    let lo = rw lit_two⁻60 at c.if-x.true in
-    let hi = rw lit_two60 at c.if-x-2.true in
-    c.squash.ensures ∙ c.work.ensures ∙ simp (c.split-p.ensures.0, c.split-p.ensures.1) (sym (within_in _ _ _ _ lo hi))
-
-pub returns-then-x : goal.returns-then-x
-unfolding ln_of
-returns-then-x c = lit_nan ∙ sym (within_high _ _ _ _ (rw lit_two⁻60 at c.if-x.true) (rw lit_two60 at c.if-x-2.false))
-
-pub returns : goal.returns
-unfolding ln_of
-returns c = lit_nan ∙ sym (within_low _ _ _ _ (rw lit_two⁻60 at c.if-x.false))
+pub returns-else-between : goal.returns-else-between
+unfolding ln_of within of_bits
+returns-else-between c = rw (sym (c.between.ensures ∙ lit_range c.args.x) ∙ c.if-between.false) refl

@@ -13,6 +13,7 @@ use mir.Val.{to_z, of_z, Fits, SFits}
 use mir.Facts.{to_z_pos, to_z-of_z}
 use Rattle.logarithms.specs.Ln.{m_of, e_of, m_field, field, digits}
 use Rattle.logarithms.proofs.Fields.{m_pattern_no_nan, m_pattern_fits, m_field_small}
+use Rattle.logarithms.proofs.ExactSplit.{m_low, m_high}
 use Rattle.logarithms.proofs.split.Goals as goal
 
 -- ---- the difference of two fields
@@ -93,6 +94,9 @@ overflow_sub-exponent c = exponent_fits c.args.x _ c.m_field-under.ensures
 
 pub int_to_float-e : goal.int_to_float-e
 int_to_float-e c = exponent_in_float c.args.x _ c.m_field-under.ensures
+
+pub invariant_of-result : goal.invariant_of-result
+invariant_of-result c = rw (m_is c.args.x _ c.m_field-under.ensures) (record { inside = (m_low c.args.x, m_high c.args.x) })
 
 pub returns : goal.returns
 returns c =

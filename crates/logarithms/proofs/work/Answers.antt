@@ -25,4 +25,4 @@ quotient m a b =
 pub returns : goal.returns
 unfolding ln_work
 returns c =
-    simp (forced, squash_add, squash_mul, c.steps-h.ensures, lit_1, lit_2, lit_ln2, squash_2, squash_ln2, ⊗_left c.args.e, quotient c.args.m c.requires.0 c.requires.1)
+    simp (forced, squash_add, squash_mul, c.steps-h.ensures, lit_1, lit_2, lit_ln2, squash_2, squash_ln2, ⊗_left c.args.parts.e, quotient c.args.parts.m c.args.parts.inside.0 c.args.parts.inside.1)

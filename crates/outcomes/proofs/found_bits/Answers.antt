@@ -3,5 +3,5 @@ use mathlib.Core.Path.{◌∙◌, sym, ap}
 use Rattle.outcomes.specs.Parts.{found_bits_of}
 use Rattle.outcomes.proofs.found_bits.Goals as goal
 
-pub returns-in-State : goal.returns-in-State
-returns-in-State c = c.bits.ensures ∙ sym (ap found_bits_of c.in-State.is)
+pub returns-in-Ok : goal.returns-in-Ok
+returns-in-Ok c = c.bits.ensures ∙ sym (ap found_bits_of c.in-Ok.is)

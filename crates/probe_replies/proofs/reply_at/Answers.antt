@@ -4,16 +4,11 @@ use mathlib.Core.Path.{◌∙◌}
 use borrow.Author.Tests.{le-leb, lt-leb}
 use Rattle.words.proofs.Tail.{tail_read}
 use Rattle.probe_replies.specs.Replies.{reply_at}
-use Rattle.probe_replies.proofs.Served.{next_serves}
 use Rattle.probe_replies.proofs.reply_at.Goals as goal
 
 pub returns-then-s-lt24 : goal.returns-then-s-lt24
 unfolding reply_at
 returns-then-s-lt24 c = simp (lt-leb 24 _ c.if-s-lt24.true)
-
-pub reply_over-requires : goal.reply_over-requires
-reply_over-requires c =
-    next_serves c.args.s.now _ _ _ _ c.word-call.ensures c.word-first.ensures c.requires c.if-s-lt24.false
 
 pub returns : goal.returns
 unfolding reply_at

@@ -1,7 +1,8 @@
 -- `steps` meets its contract. The loop's invariant: the steps that are left, from the present y, end where all sixteen do from
--- 256. The measure is n. Assumes nothing.
+-- 256. Assumes nothing.
 use mathlib.Core.Path.{◌≡◌, refl, sym, ◌∙◌}
 use mathlib.Core.Bool.{Bool}
+use Prim.Native.Nat.{◌-◌, ◌+◌}
 use native.Mathlib.Omega.{arith}
 use lib.Ieee.{Float, nan, inf, fin, binary64, add, div}
 use Rattle.arithmetic.specs.Checked.{squash, ◌⊕◌, ◌⊘◌}
@@ -24,21 +25,16 @@ step x nan = squash_add nan (div binary64 x nan) ∙ simp (squash_over)
 step x (inf s) = step_inf x s ∙ sym (nan_⊕ _).0
 step x (fin s m e) = squash_add (fin s m e) (div binary64 x (fin s m e)) ∙ simp (squash_div x (fin s m e) tt)
 
-pub loop-n-init : goal.loop-n-init
-loop-n-init c = simp (lit_256, squash_256)
+pub loop-init : goal.loop-init
+loop-init c = simp (lit_256, squash_256)
 
-pub overflow_sub-n : goal.overflow_sub-n
-overflow_sub-n c = omega arith
-
-pub loop-n-smaller : goal.loop-n-smaller
-loop-n-smaller c = omega arith
-
-pub loop-n-preserved : goal.loop-n-preserved
-loop-n-preserved c =
-    simp (squash_over, step, lit_2) (sym (root_turn (squash c.args.x) (squash c.loop-n.y) c.loop-n.n c.loop-n-test.true) ∙ c.loop-n.invariant)
+pub loop-preserved : goal.loop-preserved
+loop-preserved c =
+    let left : 16 - (c.loop.counter + 1) ≡ 16 - c.loop.counter - 1 = omega arith in
+    rw left (simp (squash_over, step, lit_2) (sym (root_turn (squash c.args.x) (squash c.loop.y) (16 - c.loop.counter) (omega arith)) ∙ c.loop.invariant))
 
 pub returns : goal.returns
 unfolding root_steps
 returns c =
-    let z : c.loop-n.n ≡ 0 = omega arith in
-    rw z at c.loop-n.invariant
+    let none : 16 - c.loop.counter ≡ 0 = omega arith in
+    rw none at c.loop.invariant

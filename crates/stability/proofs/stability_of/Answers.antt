@@ -1,5 +1,5 @@
 -- `stability_of` meets its contract: squash goes through each operation, and is what the parts are settled by. Assumes nothing.
-use Rattle.arithmetic.proofs.Operations.{squash_add, squash_sub, ⊕_left, ⊕_right, ⊖_left, ⊖_right}
+use Rattle.arithmetic.proofs.Operations.{operations}
 use Rattle.arithmetic.proofs.Literals.{lit_1}
 use Rattle.stability.specs.Stability.{«V», K, stability_of}
 use Rattle.stability.proofs.stability_of.Goals as goal
@@ -7,16 +7,4 @@ use Rattle.stability.proofs.stability_of.Goals as goal
 pub returns : goal.returns
 unfolding «V» K stability_of
 returns c =
-    simp (
-      c.squash-v.ensures,
-      c.squash-k.ensures,
-      c.q_of-q.ensures,
-      c.i2.ensures,
-      squash_add,
-      squash_sub,
-      ⊕_left,
-      ⊕_right,
-      ⊖_left,
-      ⊖_right,
-      lit_1,
-    )
+    simp (operations, c.squash-v.ensures, c.squash-k.ensures, c.q_of-q.ensures, c.i2.ensures, lit_1)

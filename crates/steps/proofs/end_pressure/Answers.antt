@@ -6,8 +6,8 @@ use Rattle.search.specs.Plain.{end_step}
 use Rattle.steps.proofs.Inside.{pressure_beyond}
 use Rattle.steps.proofs.end_pressure.Goals as goal
 
-pub overflow_mul-k : goal.overflow_mul-k
-overflow_mul-k c = omega arith
+pub overflow_mul-j : goal.overflow_mul-j
+overflow_mul-j c = omega arith
 
 pub returns-then-j-le-MOST_CELLS : goal.returns-then-j-le-MOST_CELLS
 returns-then-j-le-MOST_CELLS c = c.step_pressure.ensures

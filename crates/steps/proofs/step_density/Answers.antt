@@ -10,9 +10,9 @@ use Rattle.steps.proofs.Literals.{lit_step}
 use Rattle.steps.proofs.Inside.{step_inside, step_beyond}
 use Rattle.steps.proofs.step_density.Goals as goal
 
-pub int_to_float-whole : goal.int_to_float-whole
+pub int_to_float-result : goal.int_to_float-result
 unfolding in_float
-int_to_float-whole c = le→leb c.args.k 9007199254740992 (omega arith)
+int_to_float-result c = le→leb c.args.k 9007199254740992 (omega arith)
 
 pub returns-then-k-le-MOST_STEPS : goal.returns-then-k-le-MOST_STEPS
 unfolding step_density_of

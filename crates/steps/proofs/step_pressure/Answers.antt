@@ -11,7 +11,7 @@ pub returns-then-k-le-MOST_STEPS : goal.returns-then-k-le-MOST_STEPS
 unfolding step_pressure_of
 returns-then-k-le-MOST_STEPS c =
     c.pressure_at.ensures
-    ∙ ap (pressure_at _) (at_step _ c.args.k _ (omega arith) c.step_density-rho.ensures)
+    ∙ ap (pressure_at _) (at_step _ c.args.k _ (omega arith) c.step_density.ensures)
     ∙ sym (pressure_inside _ c.args.k (omega arith))
 
 pub returns : goal.returns

@@ -31,7 +31,3 @@ module _ (s : Sums) (h : all_finite s ≡ true) where
 
 pub returns-then-all_finite : goal.returns-then-all_finite
 returns-then-all_finite c = squashed_already _ (sym c.all_finite.ensures ∙ c.if-all_finite.true)
-
-pub returns : goal.returns
-returns c =
-    simp (c.squash-s0.ensures, c.squash-s1.ensures, c.squash-s2.ensures, c.squash-t1.ensures, c.squash-t2.ensures, c.squash-st.ensures)

@@ -1,13 +1,11 @@
 -- `enthalpy_value` meets its contract: squash goes through each operation. Assumes nothing.
-use mathlib.Core.Path.{◌∙◌, ap}
-use Rattle.arithmetic.proofs.Operations.{squash_add, squash_sub, squash_mul, ⊕_left, ⊕_right, ⊖_left, ⊖_right, ⊗_left, ⊗_right}
+use mathlib.Core.Path.{◌∙◌}
+use Rattle.arithmetic.proofs.Operations.{operations}
 use Rattle.arithmetic.proofs.Literals.{lit_1}
-use Rattle.fluids.specs.declared.Constants.{Constants}
-use Rattle.values.specs.Values.{enthalpy_value, i1}
+use Rattle.values.specs.Values.{enthalpy_value}
 use Rattle.values.proofs.enthalpy_value.Goals as goal
 
 pub returns : goal.returns
-unfolding enthalpy_value i1
+unfolding enthalpy_value
 returns c =
-    let gas = ap (λ (k : Constants). k.gas) c.single_numbers-numbers.ensures in
-    c.squash.ensures ∙ simp (squash_add, squash_sub, squash_mul, ⊕_left, ⊕_right, ⊖_left, ⊖_right, ⊗_left, ⊗_right, lit_1, gas, c.i1.ensures)
+    c.squash.ensures ∙ simp (operations, lit_1, c.single_numbers-gas.ensures, c.i1_of.ensures)

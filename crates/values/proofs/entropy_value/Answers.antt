@@ -1,12 +1,10 @@
 -- `entropy_value` meets its contract: squash goes through each operation. Assumes nothing.
-use mathlib.Core.Path.{◌∙◌, ap}
-use Rattle.arithmetic.proofs.Operations.{squash_add, squash_sub, squash_mul, ⊕_left, ⊕_right, ⊖_left, ⊖_right, ⊗_left, ⊗_right}
-use Rattle.fluids.specs.declared.Constants.{Constants}
-use Rattle.values.specs.Values.{entropy_value, i1, i0}
+use mathlib.Core.Path.{◌∙◌}
+use Rattle.arithmetic.proofs.Operations.{operations}
+use Rattle.values.specs.Values.{entropy_value}
 use Rattle.values.proofs.entropy_value.Goals as goal
 
 pub returns : goal.returns
-unfolding entropy_value i1 i0
+unfolding entropy_value
 returns c =
-    let gas = ap (λ (k : Constants). k.gas) c.single_numbers-numbers.ensures in
-    c.squash.ensures ∙ simp (squash_add, squash_sub, squash_mul, ⊕_left, ⊕_right, ⊖_left, ⊖_right, ⊗_left, ⊗_right, gas, c.i1.ensures, c.i0.ensures)
+    c.squash.ensures ∙ simp (operations, c.single_numbers-gas.ensures, c.i1_of.ensures, c.i0_of.ensures)

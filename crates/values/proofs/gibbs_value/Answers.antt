@@ -1,12 +1,10 @@
 -- `gibbs_value` meets its contract: squash goes through each operation. Assumes nothing.
-use mathlib.Core.Path.{◌∙◌, ap}
-use Rattle.arithmetic.proofs.Operations.{squash_add, squash_sub, squash_mul, ⊕_left, ⊕_right, ⊖_left, ⊖_right, ⊗_left, ⊗_right}
-use Rattle.fluids.specs.declared.Constants.{Constants}
+use mathlib.Core.Path.{◌∙◌}
+use Rattle.arithmetic.proofs.Operations.{operations}
 use Rattle.values.specs.Values.{gibbs_value}
 use Rattle.values.proofs.gibbs_value.Goals as goal
 
 pub returns : goal.returns
 unfolding gibbs_value
 returns c =
-    let gas = ap (λ (k : Constants). k.gas) c.single_numbers-numbers.ensures in
-    c.squash.ensures ∙ simp (squash_add, squash_sub, squash_mul, ⊕_left, ⊕_right, ⊖_left, ⊖_right, ⊗_left, ⊗_right, gas, c.gibbs_over_rt.ensures)
+    c.squash.ensures ∙ simp (operations, c.single_numbers-gas.ensures, c.gibbs_over_rt.ensures)

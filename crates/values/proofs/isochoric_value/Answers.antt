@@ -1,7 +1,6 @@
 -- `isochoric_value` meets its contract: squash goes through each operation. Assumes nothing.
-use mathlib.Core.Path.{◌∙◌, ap}
-use Rattle.arithmetic.proofs.Operations.{squash_add, squash_sub, squash_mul, ⊕_left, ⊕_right, ⊖_left, ⊖_right, ⊗_left, ⊗_right}
-use Rattle.fluids.specs.declared.Constants.{Constants}
+use mathlib.Core.Path.{◌∙◌}
+use Rattle.arithmetic.proofs.Operations.{operations}
 use Rattle.stability.specs.Stability.{«V»}
 use Rattle.values.specs.Values.{isochoric_value}
 use Rattle.values.proofs.isochoric_value.Goals as goal
@@ -9,5 +8,4 @@ use Rattle.values.proofs.isochoric_value.Goals as goal
 pub returns : goal.returns
 unfolding isochoric_value «V»
 returns c =
-    let gas = ap (λ (k : Constants). k.gas) c.single_numbers-numbers.ensures in
-    c.squash.ensures ∙ simp (squash_add, squash_sub, squash_mul, ⊕_left, ⊕_right, ⊖_left, ⊖_right, ⊗_left, ⊗_right, gas, c.i2.ensures)
+    c.squash.ensures ∙ simp (operations, c.single_numbers-gas.ensures, c.i2.ensures)

@@ -1,24 +1,14 @@
 -- `write` meets its contract: the call on the kind that the letter names, or 14 and the buffer as it was. Assumes nothing.
-use mathlib.Core.Path.{◌≡◌, sym, ◌∙◌, ap}
-use mathlib.Core.List.{List}
-use Prim.Native.Nat.{ℕ}
-use Rattle.records.specs.declared.Kind.{Kind}
-use Rattle.records.specs.declared.Lettered.{Lettered}
-use Rattle.records.specs.Record.{kind_lettered}
-use Rattle.writing.specs.Write.{Ended, refused_with, written_of, by_letter, write_of}
+use mathlib.Core.Path.{refl, sym, ◌∙◌}
+use Rattle.std.proofs.lemmas.Result.{err_from_is_err_and}
+use Rattle.writing.specs.Write.{write_of}
 use Rattle.writing.proofs.write.Goals as goal
 
-module _ (kind fluid x y : ℕ) (buffer : List ℕ) (place : ℕ) where
-  by_kind : {lettered known : Lettered} {r : Ended} → lettered ≡ kind_lettered kind → lettered ≡ known →
-      r ≡ by_letter (refused_with buffer) known (λ k. written_of k fluid x y buffer place) → r ≡ write_of kind fluid x y buffer place
-  unfolding write_of
-  by_kind e told ends = ends ∙ ap (λ (l : Lettered). by_letter (refused_with buffer) l (λ (k : Kind). written_of k fluid x y buffer place)) (sym told ∙ e)
+pub returns-in_err-known : goal.returns-in_err-known
+unfolding write_of
+returns-in_err-known c =
+    let p = err_from_is_err_and c.from_residual.result c.from_residual.ensures.1 in rw (p.1, p.2, sym c.in_err-known.ensures) refl
 
-pub returns-in-Known : goal.returns-in-Known
-returns-in-Known c =
-    by_kind c.args.kind c.args.fluid c.args.first c.args.second c.args.buffer.now c.args.place c.kind_lettered-lettered.ensures c.in-Known.is c.write_of.ensures
-
-pub returns-in-Unknown : goal.returns-in-Unknown
-returns-in-Unknown c =
-    by_kind c.args.kind c.args.fluid c.args.first c.args.second c.args.buffer.now c.args.place c.kind_lettered-lettered.ensures c.in-Unknown.is
-    (ap (λ (n : ℕ). (n, c.args.buffer.now)) c.code.ensures)
+pub returns : goal.returns
+unfolding write_of
+returns c = c.write_of.ensures ∙ rw (sym c.in_ok-known.ensures) refl

@@ -9,7 +9,7 @@ returns-then-lo-x c =
     let not_below : le c.args.lo c.args.x ≡ true = c.if-lo-x.true in
     simp not_below
 
-pub returns : goal.returns
-returns c =
+pub returns-else-lo-x : goal.returns-else-lo-x
+returns-else-lo-x c =
     let below : le c.args.lo c.args.x ≡ false = c.if-lo-x.false in
     simp below

@@ -1,11 +1,15 @@
--- `finite` meets its contract: its two comparisons are those of `finite_between`. Assumes nothing.
-use mathlib.Core.Path.{sym, ◌∙◌}
-use Rattle.arithmetic.proofs.Operations.{finite_between}
-use Rattle.arithmetic.proofs.Literals.{lit_inf, lit_minus_inf}
+-- `finite` meets its contract: std's test and the definition's answer alike for each of the three kinds of numbers. Assumes nothing.
+use mathlib.Core.Path.{◌≡◌, refl, ◌∙◌}
+use lib.Ieee.{Float, nan, inf, fin}
+use lib.Ieee.Scale.{finite}
+use Rattle.std.specs.Float.{float_is_finite}
 use Rattle.arithmetic.proofs.checked.finite.Goals as goal
 
-pub returns-then-infinity-x : goal.returns-then-infinity-x
-returns-then-infinity-x c = sym (sym (finite_between c.args.x) ∙ simp (lit_inf, simp lit_minus_inf at c.if-infinity-x.true))
+alike : (x : Float) → float_is_finite x ≡ finite x
+unfolding float_is_finite
+alike nan = refl
+alike (inf s) = refl
+alike (fin s m e) = refl
 
 pub returns : goal.returns
-returns c = sym (sym (finite_between c.args.x) ∙ simp (simp lit_minus_inf at c.if-infinity-x.false))
+returns c = c.is_finite.ensures.value ∙ alike c.args.x

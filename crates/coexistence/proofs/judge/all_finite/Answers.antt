@@ -7,6 +7,6 @@ pub returns-then-phases_finite : goal.returns-then-phases_finite
 unfolding all_finite
 returns-then-phases_finite c = then_second _ c.phases_finite.ensures c.if-phases_finite.true c.both_finite.ensures
 
-pub returns : goal.returns
+pub returns-else-phases_finite : goal.returns-else-phases_finite
 unfolding all_finite
-returns c = not_first _ c.phases_finite.ensures c.if-phases_finite.false
+returns-else-phases_finite c = not_first _ c.phases_finite.ensures c.if-phases_finite.false

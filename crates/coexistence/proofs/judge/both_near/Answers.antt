@@ -16,7 +16,7 @@ returns-then-between c =
     then_second _ (near_by pressure_bound c.args.pressures _ _ c.between.ensures refl refl) c.if-between.true
     (near_by value_bound c.args.values _ _ c.between-then-between.ensures refl refl)
 
-pub returns : goal.returns
+pub returns-else-between : goal.returns-else-between
 unfolding of_bits round neg minus
-returns c =
+returns-else-between c =
     not_first _ (near_by pressure_bound c.args.pressures _ _ c.between.ensures refl refl) c.if-between.false

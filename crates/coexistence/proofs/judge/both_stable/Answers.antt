@@ -9,5 +9,5 @@ pub returns-then-liquid : goal.returns-then-liquid
 returns-then-liquid c =
     then_second _ (ap (λ (z : Float). lt z c.args.liquid) lit_0) c.if-liquid.true (ap (λ (z : Float). lt z c.args.vapour) lit_0)
 
-pub returns : goal.returns
-returns c = not_first _ (ap (λ (z : Float). lt z c.args.liquid) lit_0) c.if-liquid.false
+pub returns-else-liquid : goal.returns-else-liquid
+returns-else-liquid c = not_first _ (ap (λ (z : Float). lt z c.args.liquid) lit_0) c.if-liquid.false

@@ -5,9 +5,9 @@ use Rattle.refusals.proofs.Tests.{then_second, not_first}
 use Rattle.arithmetic.proofs.Literals.{lit_0}
 use Rattle.coexistence.proofs.judge.in_turn.Goals as goal
 
-pub returns-then-vapour : goal.returns-then-vapour
-returns-then-vapour c =
-    then_second _ (ap (λ (z : Float). lt z c.args.vapour) lit_0) c.if-vapour.true c.across.ensures
+pub returns-then-pair : goal.returns-then-pair
+returns-then-pair c =
+    then_second _ (ap (λ (z : Float). lt z c.args.pair.vapour) lit_0) c.if-pair.true c.across.ensures
 
-pub returns : goal.returns
-returns c = not_first _ (ap (λ (z : Float). lt z c.args.vapour) lit_0) c.if-vapour.false
+pub returns-else-pair : goal.returns-else-pair
+returns-else-pair c = not_first _ (ap (λ (z : Float). lt z c.args.pair.vapour) lit_0) c.if-pair.false

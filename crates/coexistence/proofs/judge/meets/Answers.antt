@@ -7,6 +7,6 @@ pub returns-then-both_stable : goal.returns-then-both_stable
 unfolding meets
 returns-then-both_stable c = then_second _ c.both_stable.ensures c.if-both_stable.true c.both_near.ensures
 
-pub returns : goal.returns
+pub returns-else-both_stable : goal.returns-else-both_stable
 unfolding meets
-returns c = not_first _ c.both_stable.ensures c.if-both_stable.false
+returns-else-both_stable c = not_first _ c.both_stable.ensures c.if-both_stable.false

@@ -13,9 +13,9 @@ unfolding ordered
 returns-then-t-numbers c =
     then_second _ (ap (λ (k : Constants). lt c.args.t k.critical_temperature) c.single_numbers-numbers.ensures) c.if-t-numbers.true
     (c.in_turn.ensures
-    ∙ ap (λ (k : Constants). lt (real 0) c.args.vapour && (lt c.args.vapour k.critical_density && lt k.critical_density c.args.liquid)) c.single_numbers-numbers.ensures)
+    ∙ ap (λ (k : Constants). lt (real 0) c.args.pair.vapour && (lt c.args.pair.vapour k.critical_density && lt k.critical_density c.args.pair.liquid)) c.single_numbers-numbers.ensures)
 
-pub returns : goal.returns
+pub returns-else-t-numbers : goal.returns-else-t-numbers
 unfolding ordered
-returns c =
+returns-else-t-numbers c =
     not_first _ (ap (λ (k : Constants). lt c.args.t k.critical_temperature) c.single_numbers-numbers.ensures) c.if-t-numbers.false

@@ -11,7 +11,7 @@ use Rattle.coexistence.proofs.judge.verdict.Goals as goal
 pub returns : goal.returns
 unfolding Judge.verdict_of
 returns c =
-    let phases = c.compare-c.ensures ∙ ap (λ (k : Kept). compared_by k c.args.liquid c.args.vapour) c.keep.ensures in
-    one_test ((Judge.all_finite (compared_at c.args.fluid c.args.t c.args.liquid c.args.vapour), refuses.WorkNotFinite) ∷ []) _ refuses.NotAccepted c.tested.ensures
+    let phases = c.compare-c.ensures ∙ ap (λ (k : Kept). compared_by k c.args.pair.liquid c.args.pair.vapour) c.keep.ensures in
+    one_test ((Judge.all_finite (compared_at c.args.fluid c.args.t c.args.pair.liquid c.args.pair.vapour), refuses.WorkNotFinite) ∷ []) _ refuses.NotAccepted c.tested.ensures
     (one_test [] _ refuses.WorkNotFinite c.tested-worked.ensures refl (c.all_finite.ensures ∙ ap Judge.all_finite phases))
     (c.meets.ensures ∙ ap Judge.meets phases)

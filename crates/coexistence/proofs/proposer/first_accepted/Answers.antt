@@ -1,26 +1,23 @@
--- `first_accepted` meets its contract: the invariant is that the pairs left, from the one at hand on, give what all give; the measure is how many are left. Assumes nothing.
-use mathlib.Core.Path.{refl, sym, ◌∙◌}
+-- `first_accepted` meets its contract: the pairs left, from the one at hand on, give what all give. Assumes nothing.
+use mathlib.Core.Path.{refl, ◌∙◌}
+use Prim.Native.Nat.{◌+◌, ◌-◌}
 use native.Mathlib.Omega.{arith}
-use Rattle.coexistence.proofs.Sequence.{turn_accepted, turn_goes_on, turn_ends, none_left, all_left}
+use Rattle.coexistence.specs.Proposer.{rounds, pairs_after}
+use Rattle.coexistence.proofs.Sequence.{turn, none_left}
 use Rattle.coexistence.proofs.proposer.first_accepted.Goals as goal
 
-pub loop-left-init : goal.loop-left-init
-loop-left-init c = all_left _ _ 41 _ refl
+pub loop-init : goal.loop-init
+unfolding pairs_after
+loop-init c = refl
 
 pub returns-in-Accepted : goal.returns-in-Accepted
-returns-in-Accepted c =
-    sym (turn_accepted _ _ c.loop-left.left _ _ _ c.loop-left-test.true c.judge_next-judgement.ensures c.in-Accepted.is) ∙ c.loop-left.invariant
+returns-in-Accepted c = turn _ _ (1 + rounds - c.loop.counter) (rounds - c.loop.counter) c.loop.pair (omega arith) c.in-Accepted.ensures ∙ c.loop.invariant
 
 pub returns-in-Ends : goal.returns-in-Ends
-returns-in-Ends c =
-    sym (turn_ends _ _ c.loop-left.left _ _ _ c.loop-left-test.true c.judge_next-judgement.ensures c.in-Ends.is) ∙ c.loop-left.invariant
+returns-in-Ends c = turn _ _ (1 + rounds - c.loop.counter) (rounds - c.loop.counter) c.loop.pair (omega arith) c.in-Ends.ensures ∙ c.loop.invariant
 
-pub loop-left-smaller : goal.loop-left-smaller
-loop-left-smaller c = omega arith
-
-pub loop-left-preserved : goal.loop-left-preserved
-loop-left-preserved c =
-    sym (turn_goes_on _ _ c.loop-left.left _ _ _ c.loop-left-test.true c.judge_next-judgement.ensures _ _ c.in-GoesOn.is) ∙ c.loop-left.invariant
+pub loop-preserved : goal.loop-preserved
+loop-preserved c = turn _ _ (1 + rounds - c.loop.counter) (1 + rounds - (c.loop.counter + 1)) c.loop.pair (omega arith) c.in-GoesOn.ensures ∙ c.loop.invariant
 
 pub returns : goal.returns
-returns c = sym (none_left _ _ c.loop-left.left _ (omega arith)) ∙ c.loop-left.invariant
+returns c = none_left _ _ c.loop.pair (omega arith) ∙ c.loop.invariant

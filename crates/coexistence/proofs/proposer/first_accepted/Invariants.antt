@@ -1,11 +1,9 @@
--- `first_accepted` meets its contract: the invariant is that the pairs left, from the one at hand on, give what all give; the measure is how many are left. Assumes nothing.
+-- `first_accepted` meets its contract: the pairs left, from the one at hand on, give what all give.
 use mathlib.Core.Path.{◌≡◌}
-use Rattle.coexistence.specs.Proposer.{pair, pairs_from, pairs_after, first_accepted}
+use Prim.Native.Nat.{◌+◌, ◌-◌}
+use Rattle.coexistence.specs.Proposer.{rounds, pairs_from, pairs_after, first_accepted}
 use Rattle.coexistence.proofs.proposer.first_accepted.Given as goal
 
-abbrev pub invariant-loop-left : goal.invariant-loop-left
-invariant-loop-left l =
-    first_accepted l.fluid l.t (pairs_from l.fluid l.t l.left (pair l.liquid l.vapour)) ≡ first_accepted l.fluid l.t (pairs_after l.fluid l.t (pair l.l l.v))
-
-abbrev pub decreases-loop-left : goal.decreases-loop-left
-decreases-loop-left l = l.left
+abbrev pub invariant-loop : goal.invariant-loop
+invariant-loop l =
+    first_accepted l.fluid l.t (pairs_from l.fluid l.t (1 + rounds - l.counter) l.pair) ≡ first_accepted l.fluid l.t (pairs_after l.fluid l.t l.fn.start)

@@ -1,41 +1,22 @@
 -- `pair_of` meets its contract: by how the two estimates end. Assumes nothing.
-use mathlib.Core.Path.{◌≡◌, sym, ◌∙◌, ap}
-use lib.Ieee.{Float}
-use Rattle.refusals.specs.declared.Refusal.{Refusal}
-use Rattle.refusals.specs.declared.Answer.{Answer}
-use Rattle.refusals.specs.declared.Answer.TheVariants.{Number, Refused}
-use Rattle.fluids.specs.declared.Fluid.{Fluid}
+use mathlib.Core.Path.{refl, ◌∙◌}
+use Rattle.std.proofs.lemmas.Result.{err_from_is_err_and}
 use Rattle.saturation.specs.Calls.{saturated_liquid_of, saturated_vapour_of}
-use Rattle.coexistence.specs.declared.Paired.{Paired}
-use Rattle.coexistence.specs.Proposer.{pair, pairs_after, first_accepted, started_with, pair_of}
+use Rattle.coexistence.proofs.Sequence.{begun}
 use Rattle.coexistence.proofs.proposer.pair_of.Goals as goal
 
-module _ (F : Fluid) (T : Float) {a : Answer} (e : a ≡ saturated_liquid_of F T) where
-  no_liquid : {r : Refusal} → a ≡ Refused r → Paired.Refused r ≡ pair_of F T
-  unfolding pair_of
-  no_liquid told = sym (ap (λ (x : Answer). started_with F T x (saturated_vapour_of F T)) (sym e ∙ told))
-
-  module _ {l : Float} {b : Answer} (answered : a ≡ Number l) (f : b ≡ saturated_vapour_of F T) where
-    from_liquid : started_with F T (Number l) b ≡ pair_of F T
-    unfolding pair_of
-    from_liquid = ap (λ (x : Answer). started_with F T x b) (sym answered ∙ e) ∙ ap (started_with F T (saturated_liquid_of F T)) f
-
-    no_vapour : {r : Refusal} → b ≡ Refused r → Paired.Refused r ≡ pair_of F T
-    no_vapour told = sym (ap (started_with F T (Number l)) told) ∙ from_liquid
-
-    from_both : {v : Float} {p : Paired} → b ≡ Number v → p ≡ first_accepted F T (pairs_after F T (pair l v)) → p ≡ pair_of F T
-    from_both told work = work ∙ sym (ap (started_with F T (Number l)) told) ∙ from_liquid
-
-pub returns-in-Refused : goal.returns-in-Refused
+pub returns-in_err-liquid : goal.returns-in_err-liquid
 unfolding saturated_liquid_of
-returns-in-Refused c = no_liquid _ _ c.answer_of-liquid.ensures c.in-Refused.is
+returns-in_err-liquid c =
+    let p = err_from_is_err_and c.from_residual.result c.from_residual.ensures.1 in
+    rw (p.1, p.2) (begun c.args.fluid c.args.t c.in_err-liquid.ensures refl)
 
-pub returns-in-Refused-vapour : goal.returns-in-Refused-vapour
+pub returns-in_err-vapour : goal.returns-in_err-vapour
 unfolding saturated_liquid_of saturated_vapour_of
-returns-in-Refused-vapour c =
-    no_vapour _ _ c.answer_of-liquid.ensures c.in-Number.is c.answer_of-vapour.ensures c.in-Refused-vapour.is
+returns-in_err-vapour c =
+    let p = err_from_is_err_and c.from_residual-in_err-vapour.result c.from_residual-in_err-vapour.ensures.1 in
+    rw (p.1, p.2) (begun c.args.fluid c.args.t c.in_ok-liquid.ensures c.in_err-vapour.ensures)
 
-pub returns-in-Number-vapour : goal.returns-in-Number-vapour
+pub returns : goal.returns
 unfolding saturated_liquid_of saturated_vapour_of
-returns-in-Number-vapour c =
-    from_both _ _ c.answer_of-liquid.ensures c.in-Number.is c.answer_of-vapour.ensures c.in-Number-vapour.is c.first_accepted.ensures
+returns c = c.first_accepted.ensures ∙ begun c.args.fluid c.args.t c.in_ok-liquid.ensures c.in_ok-vapour.ensures

@@ -6,4 +6,4 @@ use Rattle.coexistence.proofs.round.next_pair.Goals as goal
 pub returns : goal.returns
 unfolding next_by
 returns c =
-    simp (c.squash-liquid.ensures, c.squash-vapour.ensures, squash_add, squash_sub, squash_over, ⊘_left, ⊕_left, ⊖_left, ⊖_right, c.vapour_step-y.ensures, c.pressure_step-d.ensures)
+    simp (c.squash.ensures, c.squash-2.ensures, squash_add, squash_sub, squash_over, ⊘_left, ⊕_left, ⊖_left, ⊖_right, c.vapour_step-y.ensures, c.pressure_step-d.ensures)

@@ -9,5 +9,5 @@ use Rattle.coexistence.proofs.round.pressure_step.Goals as goal
 pub returns : goal.returns
 unfolding pressure_step
 returns c =
-    let gas = ap (λ (k : Constants). k.gas) c.single_numbers-numbers.ensures in
+    let gas = ap (λ (k : Constants). k.gas) c.single_numbers-gas.ensures in
     c.over.ensures ∙ simp (⊘_left, squash_mul, ⊗_left, ⊗_right, lit_1000, gas)

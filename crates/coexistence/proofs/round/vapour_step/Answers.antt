@@ -12,7 +12,7 @@ less : (a e l : Float) → squash (sub binary64 (div binary64 a l) e) ≡ a ⊘ 
 less a e l = simp (squash_sub, squash_over, ⊘_left, ⊖_right)
 
 between_reciprocals : (l v : Float) → squash (sub binary64 (div binary64 (of_bits binary64 0x3ff0000000000000) l) (div binary64 (of_bits binary64 0x3ff0000000000000) v)) ≡ real 1 ⊘ l ⊖ real 1 ⊘ v
-between_reciprocals l v = simp (squash_sub, squash_over, ⊘_left, lit_1, squash_1)
+between_reciprocals l v = simp (squash_sub, squash_over, lit_1, squash_1)
 
 pub returns : goal.returns
 unfolding vapour_step

@@ -12,6 +12,6 @@ pub returns-then-density-critical_density : goal.returns-then-density-critical_d
 returns-then-density-critical_density c =
     word_by_tests c.args.fluid c.args.t c.args.density _ false true c.single_numbers-numbers.ensures c.if-t-critical.false c.if-density-critical_density.true
 
-pub returns : goal.returns
-returns c =
+pub returns-else-density-critical_density : goal.returns-else-density-critical_density
+returns-else-density-critical_density c =
     word_by_tests c.args.fluid c.args.t c.args.density _ false false c.single_numbers-numbers.ensures c.if-t-critical.false c.if-density-critical_density.false

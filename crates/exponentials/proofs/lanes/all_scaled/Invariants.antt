@@ -1,18 +1,10 @@
--- `all_scaled` meets its contract: each place is worked by itself. The measure is what is left of the places. Assumes nothing.
+-- `all_scaled` meets its contract: each place is worked by itself. Assumes nothing.
 use mathlib.Core.Path.{◌≡◌}
-use mathlib.Core.List.{List}
-use Prim.Native.Nat.{ℕ, ◌≤◌, ◌-◌}
-use lib.Ieee.{Float}
-use Rattle.arithmetic.specs.Checked.{squash, real, two⁻, within, minus, ◌⊗◌}
+use Rattle.arithmetic.specs.Checked.{squash}
+use Rattle.exponentials.specs.Exp.{scaled_of}
 use Rattle.arithmetic.specs.Lanes.{lane}
 use Rattle.arithmetic.proofs.Places.{Worked}
 use Rattle.exponentials.proofs.lanes.all_scaled.Given as goal
 
-abbrev pub Done : List Float → ℕ → Float → Type 0
-Done x k v = squash v ≡ squash (within (minus (real 700)) (real 700) (lane x k) (lane x k)) ⊗ two⁻ 10
-
-abbrev pub invariant-loop-i : goal.invariant-loop-i
-invariant-loop-i l = (l.i ≤ 7) × Worked 7 (Done l.x) (λ k v. Unit {0}) l.i l.y
-
-abbrev pub decreases-loop-i : goal.decreases-loop-i
-decreases-loop-i l = 7 - l.i
+abbrev pub invariant-loop-v : goal.invariant-loop-v
+invariant-loop-v g l = Worked g.row.N (λ k v. squash v ≡ scaled_of (lane l.fn.x k)) (λ k v. v ≡ lane l.fn.x k) l.v-index l.v-items

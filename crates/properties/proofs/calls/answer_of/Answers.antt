@@ -2,16 +2,13 @@
 -- nothing.
 use mathlib.Core.Path.{sym, ◌∙◌, ap}
 use lib.Ieee.{Float}
-use Rattle.refusals.proofs.Needed.{permitted_granted, permitted_denied}
+use Rattle.refusals.proofs.Needed.{permitted_granted}
 use Rattle.equation.specs.State.{state_at}
 use Rattle.properties.specs.Calls.{worked_of}
 use Rattle.properties.proofs.calls.answer_of.Goals as goal
 
-pub returns-in-Granted : goal.returns-in-Granted
-returns-in-Granted c =
+pub returns : goal.returns
+returns c =
     c.worked.ensures
     ∙ ap (λ (ρ : Float). worked_of c.args.property (state_at c.args.fluid c.args.t ρ)) c.worked_density.ensures
-    ∙ sym (permitted_granted _ _ (sym c.inputs_of-permit.ensures ∙ c.in-Granted.is))
-
-pub returns-in-Denied : goal.returns-in-Denied
-returns-in-Denied c = sym (permitted_denied _ _ _ (sym c.inputs_of-permit.ensures ∙ c.in-Denied.is))
+    ∙ sym (permitted_granted _ _ (sym c.in_ok-inputs_of.ensures))

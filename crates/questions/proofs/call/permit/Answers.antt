@@ -2,7 +2,7 @@
 use mathlib.Core.Path.{◌∙◌, ap}
 use lib.Dec.{leb}
 use Rattle.refusals.specs.declared.Refusal.TheVariants.{TooShort}
-use Rattle.refusals.specs.declared.Permit.{Permit}
+use Rattle.refusals.specs.Answer.{Permit}
 use Rattle.refusals.specs.Order.{tested_of}
 use Rattle.questions.specs.Call.{permit_of}
 use Rattle.questions.proofs.call.permit.Goals as goal

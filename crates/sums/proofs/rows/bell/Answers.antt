@@ -1,27 +1,10 @@
--- `bell` meets its contract: squash goes through each operation, and the term's own numbers are finite. Assumes nothing.
-use native.Mathlib.Omega.{arith}
-use Rattle.arithmetic.proofs.Operations.{squash_mul, squash_sub}
+-- `bell` meets its contract: squash goes through each operation, and an operation does not see it. Assumes nothing.
 use Rattle.arithmetic.proofs.Forced.{forced}
-use Rattle.arithmetic.proofs.Literals.{lit_2, squash_2}
+use Rattle.arithmetic.proofs.Literals.{lit_2}
+use Rattle.arithmetic.proofs.Operations.{operations}
 use Rattle.sums.specs.Rows.{row_at}
-use Rattle.sums.proofs.Table.{whole_finite}
 use Rattle.sums.proofs.rows.bell.Goals as goal
 
 pub returns : goal.returns
 unfolding row_at
-returns c =
-    simp (
-      squash_mul,
-      squash_sub,
-      forced,
-      c.whole_power.ensures,
-      lit_2,
-      squash_2,
-      c.requires.0,
-      c.requires.1,
-      c.requires.2,
-      c.requires.3,
-      c.requires.4,
-      c.requires.5,
-      whole_finite c.args.d (omega arith),
-    )
+returns c = simp (operations, forced, lit_2, c.amount.ensures)

@@ -1,5 +1,0 @@
--- `bench_isobaric` meets its contract: what its two calls promise, each put into the next. Assumes nothing.
-use Rattle.bench.proofs.bench_isobaric.Goals as goal
-
-pub returns : goal.returns
-returns c = rw (c.number_or_nan.ensures, c.isobaric_heat_capacity.ensures)

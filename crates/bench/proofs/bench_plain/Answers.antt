@@ -1,5 +1,0 @@
--- `bench_plain` meets its contract: what its three calls promise, each put into the next. Assumes nothing.
-use Rattle.bench.proofs.bench_plain.Goals as goal
-
-pub returns : goal.returns
-returns c = rw (c.found_density.ensures, c.plain.ensures, c.side_of.ensures)

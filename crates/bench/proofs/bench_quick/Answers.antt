@@ -1,5 +1,0 @@
--- `bench_quick` meets its contract: what its three calls promise, each put into the next. Assumes nothing.
-use Rattle.bench.proofs.bench_quick.Goals as goal
-
-pub returns : goal.returns
-returns c = rw (c.found_density.ensures, c.quick.ensures, c.side_of.ensures)
