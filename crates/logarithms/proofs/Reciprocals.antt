@@ -32,7 +32,11 @@ pub sheet : IsSheet RECIPROCALS
 unfolding listed ◌⊘◌ of_bits of_int round div
 sheet = refl
 
--- the number at the place k is 1/n for n = 2·k + 1
-pub sheet_at : (k : ℕ) → k < 11 → squash (get_or RECIPROCALS k nan) ≡ quotient k
-sheet_at k h =
-    ap (λ (xs : List Float). squash (get_or xs k nan)) sheet ∙ ap squash (listed_at quotient 11 k h) ∙ ⊘_squashed (real 1) (real (2 * k + 1))
+-- the number at the place k of such a table is 1/n for n = 2·k + 1
+pub sheet_at : (table : List Float) → IsSheet table → (k : ℕ) → k < 11 → squash (get_or table k nan) ≡ quotient k
+sheet_at table e k h =
+    ap (λ (xs : List Float). squash (get_or xs k nan)) e ∙ ap squash (listed_at quotient 11 k h) ∙ ⊘_squashed (real 1) (real (2 * k + 1))
+
+-- and of the code's own table
+pub reciprocal_at : (k : ℕ) → k < 11 → squash (get_or RECIPROCALS k nan) ≡ quotient k
+reciprocal_at = sheet_at RECIPROCALS sheet

@@ -1,11 +1,11 @@
 -- `all_steps` meets its contract. The outer loop's invariant: at each place the steps that are left, from the present H, end
 -- where all sixteen do from 1; the inner one's: behind the present place they are one step further. Assumes nothing.
 use mathlib.Core.Path.{◌≡◌, sym, ◌∙◌, ap}
-use Prim.Native.Nat.{◌-◌}
+use Prim.Native.Nat.{ℕ, ◌-◌}
 use native.Mathlib.Omega.{arith}
 use lib.ListN.{get_or-replicate, length-replicate}
 use lib.Ieee.{Float, nan}
-use Rattle.arithmetic.specs.Checked.{squash}
+use Rattle.arithmetic.specs.Checked.{squash, real}
 use Rattle.exponentials.specs.Exp.{exp_steps}
 use Rattle.arithmetic.specs.Lanes.{lane}
 use Rattle.arithmetic.proofs.Literals.{lit_1, squash_1}
@@ -17,8 +17,8 @@ pub loop-n-init : goal.loop-n-init
 loop-n-init g c = record {
   size = length-replicate g.row.N _;
   left = λ k p.
-      ap (λ (h : Float). exp_steps (squash (lane c.args.y k)) 16 (squash h)) (get_or-replicate g.row.N k _ nan p ∙ lit_1)
-      ∙ ap (exp_steps (squash (lane c.args.y k)) 16) squash_1;
+      ap (exp_steps (squash (lane c.args.y k)) _) (ap squash (get_or-replicate g.row.N k _ nan p ∙ lit_1) ∙ squash_1)
+      ∙ ap (λ (n : ℕ). exp_steps (squash (lane c.args.y k)) n (real 1)) (omega arith);
 }
 
 pub loop-i-preserved : goal.loop-i-preserved

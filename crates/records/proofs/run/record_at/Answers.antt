@@ -18,4 +18,4 @@ piece s k from n e f =
     ∙ ap (take 18) (tail_read from s ∙ ap (λ (m : ℕ). drop m s) e ∙ drop_min (18 * k) s)
 
 pub returns : goal.returns
-returns c = piece c.args.s.now c.args.k c.min-from.result c.min.result (omega arith) c.min.ensures
+returns c = piece c.args.s.now c.args.k c.min-from.result c.min.result (omega arith) (omega arith)
