@@ -4,8 +4,8 @@ crates/promises that its contract allows one outcome.
 
 So is every conversion, an `impl From<A> for B` or `impl TryFrom<A> for B`: what `from` or `try_from` gives stands in its ghost
 member, `from_gives` or `try_from_gives`, and where this is left out the trait's own promises nothing. Its row is that of
-`CRATE::B::from(A)`. What another trait's functions promise is not looked at, and so there is no such impl, but for `Model`, which
-has no function.
+`CRATE::B::from(A)`. What another trait's functions promise is not looked at, and so no such impl is written, but for `Model`, which
+has no function; what a type derives is the library's.
 
 No crate can stand on a static library, so that no theorem can name its functions. Those of the static library LIBRARY_c are held
 to the crate LIBRARY instead: each is a call for C that has the name, the parameters and, word for word, the clauses of a function
